@@ -170,7 +170,7 @@ def try_pairs(folder, count=300):
 def try_regular_files(folder):
     """What is no regular file is a fault at once; a link to a regular file is followed."""
     kinds = {"fifo": os.mkfifo, "folder": os.mkdir, "device": lambda path: os.symlink("/dev/zero", path)}
-    commands = [("dump",), ("info",), ("recover",), ("once", "200", "0", "app"), ("replay", "1048576"), ("record", "1", "1048576")]
+    commands = [("dump",), ("info",), ("check",), ("recover",), ("once", "200", "0", "app"), ("replay", "1048576"), ("record", "1", "1048576")]
     for kind, make in kinds.items():
         for end in ("meta", "index", "0", "3"):
             for words in commands:
@@ -204,7 +204,7 @@ def try_odd_names(folder):
     """Names that are no volume's cost nothing and change nothing."""
     base = os.path.join(folder, "arch")
     run(base, "replay", "1048576", given=script(TICKS))
-    commands = [("dump",), ("info",), ("at", "200", "0"), ("range", "0", "0", "900", "0"), ("value", "200", "0", "mmv.app.hits"), ("recover",)]
+    commands = [("dump",), ("info",), ("check",), ("at", "200", "0"), ("range", "0", "0", "900", "0"), ("value", "200", "0", "mmv.app.hits"), ("recover",)]
     without = {words: (run(base, *words), seconds_of(base, *words)) for words in commands}
     for end in ("2147483646", "4294967294", "20261128", "99999999999", "10000", "07", "1x", "", "0x1", "-1"):
         with open(f"{base}.{end}", "wb") as it:

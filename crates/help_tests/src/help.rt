@@ -4,7 +4,7 @@ use pcp_outside::MemSink;
 use pcp_shell::write_help;
 use std::test::Fail;
 
-const LINES: [&str; 13] = [
+const LINES: [&str; 14] = [
     "\n  once SEC USEC FILE ",
     "\n  replay VOLUME ",
     "\n  make NUMBER TICKS VOLUME ",
@@ -16,6 +16,7 @@ const LINES: [&str; 13] = [
     "\n  range SEC USEC SEC USEC ",
     "\n  value SEC USEC NAME ",
     "\n  info ",
+    "\n  check ",
     "\n  mmv-make ",
     "\n  mmv-dump ",
 ];

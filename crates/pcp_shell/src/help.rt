@@ -13,7 +13,7 @@ const ENDING: &str =
     "BASE begins the names of the archive's files: BASE.meta, BASE.index, BASE.0 and so on.";
 
 // Each command with its words, and what it does.
-const COMMANDS: [(&str, &str); 13] = [
+const COMMANDS: [(&str, &str); 14] = [
     (
         "once SEC USEC FILE",
         "Log the values of an image as one result",
@@ -43,6 +43,10 @@ const COMMANDS: [(&str, &str); 13] = [
         "Print the values that a metric last had at a moment",
     ),
     ("info", "Print the descriptions of an archive"),
+    (
+        "check",
+        "Tell whether an archive is sound, or where it isn't",
+    ),
     ("mmv-make", "Make the image of a layout text"),
     ("mmv-dump", "Print an image as a layout text"),
 ];

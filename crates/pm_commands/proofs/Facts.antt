@@ -60,7 +60,7 @@ module _ (words : List (List ℕ)) (s : SourceSide) (k : SinkSide) (d : DiskSide
   apart : (at : ℕ) → asked_by calls.Offline words ≡ Err at → (command : Command) → asked_by calls.Offline words ≡ Ok command → ⊥
   apart = asked.apart calls.Offline words s
 
-  one : (a b : Command) → asked_by calls.Offline words ≡ Ok a → asked_by calls.Offline words ≡ Ok b → a ≡ b
+  pub one : (a b : Command) → asked_by calls.Offline words ≡ Ok a → asked_by calls.Offline words ≡ Ok b → a ≡ b
   one = asked.one calls.Offline words s
 
   -- what was got is what was given
@@ -106,7 +106,7 @@ module _ (words : List (List ℕ)) (s : SourceSide) (k : SinkSide) (d : DiskSide
       omega (arith, within.1, far)
 
   -- from the end of a call to a fact on its status: done, untold, or refused
-  by_end : (status : ℕ) (P : ℕ → Type 0) → Ends words s k d status → (EndsDone words s k d → P 0) → (EndsUntold words s k d → P 4) → ((e : Refusal) → Caused e → P (status_of e)) → P status
+  pub by_end : (status : ℕ) (P : ℕ → Type 0) → Ends words s k d status → (EndsDone words s k d → P 0) → (EndsUntold words s k d → P 4) → ((e : Refusal) → Caused e → P (status_of e)) → P status
   by_end status P (inl done) f g h = subst P (sym done.0) (f done.1)
   by_end status P (inr (inl untold)) f g h = subst P (sym untold.0) (g untold.1)
   by_end status P (inr (inr refused)) f g h = subst P (sym refused.status_is) (h refused.refusal refused.cause)
@@ -119,7 +119,7 @@ module _ (words : List (List ℕ)) (s : SourceSide) (k : SinkSide) (d : DiskSide
   pub disk_fault_rose : (status : ℕ) → Ends words s k d status → status ≡ 5 → Rose d.faults d.faults_after
   disk_fault_rose status ends = by_end status (λ n. n ≡ 5 → Rose d.faults d.faults_after) ends (λ done h. cc) (λ untold h. cc) disk_rose
 
-  turned_away : (e : Refusal) → CauseAt AtFiles words s d e → TurnsAway words s d e
+  pub turned_away : (e : Refusal) → CauseAt AtFiles words s d e → TurnsAway words s d e
   turned_away e c = record { asks = c.0; good = c.1.0.0; uses = c.1.0.1; turned = c.1.2 }
 
   limit_only : (e : Refusal) → Caused e → status_of e ≡ 7 → LimitCause words s d
@@ -168,7 +168,7 @@ module _ (words : List (List ℕ)) (s : SourceSide) (k : SinkSide) (d : DiskSide
       (subst (λ (c : Command). (meaning c).turns_away b.input (files_found d) e) (sym (same_command a b)) turned)
 
   -- which refusal of a good input comes of files that are turned away: one of this status, unless memory ran out, the source or the disk failed
-  turned_found : (status : ℕ) (b : IsGiven words s) → refused_of b ≡ None → ((a : Asks words s) (e : Refusal) → (d.tells → (meaning a.command).turns_away a.input (files_found d) e) → status_of e ≡ status)
+  pub turned_found : (status : ℕ) (b : IsGiven words s) → refused_of b ≡ None → ((a : Asks words s) (e : Refusal) → (d.tells → (meaning a.command).turns_away a.input (files_found d) e) → status_of e ≡ status)
       → (e : Refusal) → Caused e → (status_of e ≡ status) ⊎ ((status_of e ≡ 9) ⊎ ((status_of e ≡ 3) ⊎ (status_of e ≡ 5)))
   turned_found status b good so (Usage at) c = absurd (apart at c.0.0 b.command b.words_are)
   turned_found status b good so ReadFault c = inr (inr (inl refl))

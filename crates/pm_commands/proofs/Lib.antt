@@ -1,6 +1,8 @@
+pub mod Checked
 pub mod Coherents
 pub mod Ending
 pub mod Facts
+pub mod Judged
 pub mod Served
 pub mod Torn
 pub mod Welcome

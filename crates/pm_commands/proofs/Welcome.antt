@@ -18,7 +18,8 @@ use Rattle.pm_words.specs.Refusals.{status_of}
 use Rattle.pm_words.specs.Sides.{Found}
 use Rattle.pm_runs.proofs.Refused.{takes_readable}
 use Rattle.pm_words.specs.Sound.{RecoversSound}
-use Rattle.pm_commands.proofs.Torn.{last_never_refused, range_never_refused}
+use Rattle.pm_commands.proofs.Checked.{passes_sound}
+use Rattle.pm_commands.proofs.Torn.{last_never_refused, range_never_refused, torn_is_sound}
 use Rattle.pm_tasks.specs.commands.at as at
 use Rattle.pm_tasks.specs.commands.dump as dump
 use Rattle.pm_tasks.specs.commands.range as range
@@ -71,4 +72,5 @@ pub welcomes_by_time : (f : Found) → Readable f.files → RecoversSound f.file
 welcomes_by_time f readable sound unwrapped = record {
   last = λ t e why. ⊎_elim (λ (n : IsNotLoaded f e). absurd (is_loaded f readable unwrapped e n)) (λ b. good_last f readable.0 readable.1 sound b.0 b.1 t e b.2) why;
   between = λ from to e why. ⊎_elim (λ (n : IsNotLoaded f e). is_loaded f readable unwrapped e n) (λ b. good_range f readable.0 readable.1 sound b.0 b.1 from to e b.2) why;
+  soundness = λ e why. passes_sound f unwrapped (readable.0, readable.1, (torn_is_sound f.files readable.0 readable.1 sound).0) e why;
 }

@@ -3,7 +3,9 @@
 use Rattle.std.specs.Prelude.{◌≡◌, ◌⊎◌, ℕ, ◌≤◌, Bool, List, [], length, true, false, Option, Some, None, IsSome, Result, Ok}
 use Rattle.pcp_base.specs.Time.{Moment}
 use Rattle.pcp_base.specs.declared.file.FileId.{FileId}
+use Rattle.pcp_model.specs.Archive.{Readable}
 use Rattle.pcp_model.specs.Disk.{Files, Holdings, CrashImage, IsSettled, contents_of}
+use Rattle.pcp_model.specs.Sound.{Sound}
 use Rattle.pcp_outside.specs.Causes.{Rose}
 use Rattle.pcp_outside.specs.Sides.{SourceSide, SinkSide, source_side, sink_side}
 use Rattle.pcp_outside.specs.declared.disk.Disk.{Ghosts as DiskGhosts}
@@ -12,6 +14,7 @@ use Rattle.pcp_outside.specs.declared.streams.Source.{Ghosts as SourceGhosts}
 use Rattle.run_passes.specs.declared.opening.Opened.{Opened}
 use Rattle.pm_words.specs.declared.words.Call.TheVariants as calls
 use Rattle.pm_words.specs.declared.words.Command.{Command}
+use Rattle.pm_words.specs.declared.words.Command.TheVariants.{Check}
 use Rattle.run_script.specs.declared.fault.ScriptFault.{ScriptFault}
 use Rattle.script_runs.specs.declared.ending.LimitKind.{LimitKind}
 use Rattle.pm_words.specs.declared.refusal.Refusal.{Refusal}
@@ -23,7 +26,7 @@ use Rattle.pm_words.specs.Inputs.{input_limit, refusal_of}
 use Rattle.pm_words.specs.Meaning.{Meaning}
 use Rattle.pm_words.specs.Refusals.{IsOfRun, script_status, status_of}
 use Rattle.pm_words.specs.Serving.{HadRecovered}
-use Rattle.pm_words.specs.Sides.{DiskSide, disk_side, files_found, IsUnread, Leaves, Untouched}
+use Rattle.pm_words.specs.Sides.{DiskSide, Found, disk_side, files_found, IsUnread, Leaves, Untouched}
 use Rattle.pm_words.specs.Sound.{LeavesSound}
 use Rattle.pm_words.specs.Telling.{TellsAll}
 use Rattle.pm_commands.specs.Causes.{Asks, fault_of, Finds, IsReader}
@@ -96,6 +99,18 @@ pub record NothingIsThere (words : List (List ℕ)) (s : SourceSide) (d : DiskSi
   pub only : status ≡ 11 → (stamp : Moment) × TurnsAway words s d (Nothing stamp)
   pub always : (a : IsGiven words s) → refused_of a ≡ None → d.tells → (stamp : Moment) → (meaning a.command).turns_away a.input (files_found d) (Nothing stamp)
       → (status ≡ 11) ⊎ ((status ≡ 9) ⊎ ((status ≡ 3) ⊎ (status ≡ 5)))
+
+-- no file stands wrapped, and the files are readable, but not sound
+pub record IsUnsound (f : Found) : Type 0 where
+  pub unwrapped : f.wrapped ≡ None
+  pub readable : Readable f.files
+  pub unsound : Sound f.files → ⊥
+
+-- 10 exactly where the words ask for `check` and the archive that it finds isn't sound, and then the line tells where; a disk that fails
+-- comes before
+pub record SoundnessIsExact (words : List (List ℕ)) (s : SourceSide) (d : DiskSide) (status : ℕ) : Type 0 where
+  pub only : status ≡ 10 → ((e : Refusal) × (status_of e ≡ 10) × TurnsAway words s d e) × (d.tells → IsCommand words Check × IsUnsound (files_found d))
+  pub always : IsCommand words Check → d.tells → IsUnsound (files_found d) → (status ≡ 10) ⊎ ((status ≡ 9) ⊎ (status ≡ 5))
 
 -- it was refused, so that it wasn't done
 abbrev pub IsRefused : ℕ → Type 0
@@ -209,6 +224,7 @@ module _ {I O D : Type 0} (c : Sides I O D) where
     pub disk_fault : status ≡ 5 → Rose (c.disks.faults c.disk_was) (c.disks.faults c.disk_is)
     pub run_refused : RunIsExact c.words source_of disk_of status
     pub nothing_there : NothingIsThere c.words source_of disk_of status
+    pub soundness : SoundnessIsExact c.words source_of disk_of status
     pub archive_fault : ArchiveFaultIsExact c.words source_of disk_of status
     -- Refused: the files hold what they held, or what the command says of a stop after its first write.
     pub unwritten : IsRefused status → IsUnwritten c.words source_of disk_of status

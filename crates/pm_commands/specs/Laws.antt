@@ -1,5 +1,5 @@
 -- Over which files commands are done: no readable archive is turned away by one that reads it whole, none that recovery would leave
--- sound by one that asks by time, nor files over which the run of a script comes to its end, unless a file stands wrapped; and that a
+-- sound by one that asks by time or by `check`, nor files over which the run of a script comes to its end, unless a file stands wrapped; and that a
 -- script runs to one end.
 use Rattle.std.specs.Prelude.{◌≡◌, ℕ, List, None}
 use Rattle.pcp_base.specs.Time.{Moment}
@@ -26,6 +26,7 @@ use Rattle.pm_runs.specs.Scripts as scripts
 use Rattle.pm_runs.specs.Scripts.{IsOne, IsOwn, Leads}
 use Rattle.pm_words.specs.Sound.{RecoversSound}
 use Rattle.pm_tasks.specs.commands.at as at
+use Rattle.pm_tasks.specs.commands.check as check
 use Rattle.pm_tasks.specs.commands.dump as dump
 use Rattle.pm_tasks.specs.commands.info as info
 use Rattle.pm_tasks.specs.commands.range as range
@@ -41,13 +42,15 @@ pub record IsWelcome (f : Found) : Type 0 where
 abbrev pub ReadableIsWelcome : Type 0
 ReadableIsWelcome = (f : Found) → Readable f.files → f.wrapped ≡ None → IsWelcome f
 
--- the last item not after a moment is found, or there is none; and the items of a range are found, though there may be none
+-- the last item not after a moment is found, or there is none; the items of a range are found, though there may be none; and the archive
+-- is told to be sound
 pub record IsWelcomeByTime (f : Found) : Type 0 where
   pub last : (t : Moment) (e : Refusal) → at.IsTurnedAway t f e → status_of e ≡ 11
   pub between : (from to : Moment) (e : Refusal) → range.IsTurnedAway from to f e → ⊥
+  pub soundness : (e : Refusal) → check.IsTurnedAway f e → ⊥
 
 -- A readable archive, of which no file stands wrapped and what recovery would leave is sound, is turned away by no command that asks
--- by time, but where `at` finds no item. Of a sound archive this logger, and each stop of it, leaves such files.
+-- by time, but where `at` finds no item, nor by `check`. Of a sound archive this logger, and each stop of it, leaves such files.
 abbrev pub SoundIsWelcome : Type 0
 SoundIsWelcome = (f : Found) → Readable f.files → RecoversSound f.files → f.wrapped ≡ None → IsWelcomeByTime f
 

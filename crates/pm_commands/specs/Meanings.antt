@@ -1,9 +1,10 @@
 -- The meaning of each command. Where a new one goes: its variant and its words in pm_words, its meaning here, its body in `serve`.
 use Rattle.std.specs.Prelude.{Bool, true, [], None}
 use Rattle.pm_words.specs.declared.words.Command.{Command}
-use Rattle.pm_words.specs.declared.words.Command.TheVariants.{Once, Replay, Make, MmvMake, MmvDump, Dump, Info, Recover, At, Range, Value, Record, Serve}
+use Rattle.pm_words.specs.declared.words.Command.TheVariants.{Once, Replay, Make, MmvMake, MmvDump, Dump, Info, Check, Recover, At, Range, Value, Record, Serve}
 use Rattle.pm_words.specs.Meaning.{Meaning, converts}
 use Rattle.pm_tasks.specs.commands.at.{at}
+use Rattle.pm_tasks.specs.commands.check.{check}
 use Rattle.pm_tasks.specs.commands.dump.{dump}
 use Rattle.pm_tasks.specs.commands.info.{info}
 use Rattle.pm_runs.specs.commands.make.{make}
@@ -27,6 +28,7 @@ meaning MmvMake = mmv_make
 meaning MmvDump = mmv_dump
 meaning Dump = dump
 meaning Info = info
+meaning Check = check
 meaning Recover = recover
 meaning (At t) = at t
 meaning (Range from to) = range from to

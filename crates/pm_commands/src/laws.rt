@@ -8,7 +8,7 @@ pub fn readable_is_welcome()
 {}
 
 /// A readable archive, of which no file stands wrapped and what recovery would leave is sound, is turned away by no command that asks
-/// by time, but where `at` finds no item. Such files are what a stop leaves of a sound archive, before recovery and after it.
+/// by time, but where `at` finds no item, nor by `check`. Such files are what a stop leaves of a sound archive, before recovery and after it.
 pub fn sound_is_welcome()
     ensures { SoundIsWelcome }
 {}

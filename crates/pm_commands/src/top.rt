@@ -13,7 +13,7 @@ ghost use Rattle.pm_commands.specs.Running.{Runs};
 use pcp_base::Bytes;
 use pcp_outside::{Disk, Sink, Source};
 use pm_runs::{make, once, recover, replay};
-use pm_tasks::{at, dump, info, mmv_dump, mmv_make, range, value};
+use pm_tasks::{at, check, dump, info, mmv_dump, mmv_make, range, value};
 use pm_words::{Call, Command, Refusal, ask, tell_end};
 use run_passes::Opened;
 use std::alloc::Global;
@@ -57,6 +57,7 @@ fn serve<O: Sink, D: Disk>(
         Command::MmvDump => mmv_dump(alloc, input),
         Command::Dump => dump(alloc, out, failed, disk),
         Command::Info => info(alloc, disk),
+        Command::Check => check(alloc, disk),
         Command::Recover => recover(alloc, disk),
         Command::At(t) => at(alloc, *t, disk),
         Command::Range(from, to) => range(alloc, *from, *to, disk),
@@ -90,8 +91,8 @@ fn run<I: Source, O: Sink, D: Disk>(
 /// of a script's line failed in the run. 3, 4, 5: the source, the sink or the disk failed. 6: the archive is turned away. 7: the
 /// input is above 16 MiB, a script has too many regions, a tick asks for too many metrics, or a record or a file would be too long.
 /// 9: memory was refused: the files stand as they did, or as recovery or some first lines of the run left them, or the archive as
-/// it was opened. 11: nothing is there at the moment that was asked for. 12: a result isn't later than all that the archive has.
-/// 13: the archive describes a metric otherwise. What is looked at first comes first: the words, the input, the recovery of the
+/// it was opened. 10: the archive was read, and isn't sound. 11: nothing is there at the moment that was asked for. 12: a result
+/// isn't later than all that the archive has. 13: the archive describes a metric otherwise. What is looked at first comes first: the words, the input, the recovery of the
 /// disk, the run, the output. `opened` is `None` before; a command that runs a script leaves there the regions on which it ran.
 pub fn offline<I: Source, O: Sink, D: Disk>(
     alloc: Global,

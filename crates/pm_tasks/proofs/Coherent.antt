@@ -5,18 +5,22 @@ use Rattle.pm_words.proofs.Coherent.{IsCoherent, converts_coherent}
 use Rattle.pm_tasks.specs.Archives.{nothing_before, takes_any}
 use Rattle.pm_tasks.specs.Takes.{TookAt, TookRange}
 use Rattle.pm_tasks.specs.commands.at as at
+use Rattle.pm_tasks.specs.commands.check as check
 use Rattle.pm_tasks.specs.commands.dump as dump
 use Rattle.pm_tasks.specs.commands.info as info
 use Rattle.pm_tasks.specs.commands.mmv_dump as mmv_dump
 use Rattle.pm_tasks.specs.commands.mmv_make as mmv_make
 use Rattle.pm_tasks.specs.commands.range as range
 use Rattle.pm_tasks.specs.commands.value as value
-use Rattle.pm_tasks.proofs.Lookings.{info_fits, dump_fits, at_fits, range_fits, value_fits, look_coherent, neither, quiet_coherent}
+use Rattle.pm_tasks.proofs.Lookings.{check_fits, info_fits, dump_fits, at_fits, range_fits, value_fits, look_coherent, neither, quiet_coherent}
 use Rattle.pm_tasks.proofs.Taken.{took_none}
 use Rattle.pm_tasks.proofs.Nothing.{at_nothing, at_said, value_nothing, value_said}
 
 pub info_coherent : IsCoherent info.info
 info_coherent = quiet_coherent info.IsTurnedAway info.IsOutput nothing_before takes_any info_fits (λ files n. tt) (λ f stamp n. n)
+
+pub check_coherent : IsCoherent check.check
+check_coherent = quiet_coherent check.IsTurnedAway check.IsOutput nothing_before takes_any check_fits (λ files n. tt) (λ f stamp n. n)
 
 pub dump_coherent : IsCoherent dump.dump
 dump_coherent = quiet_coherent dump.IsTurnedAway dump.IsOutput dump.IsFrontOutput takes_any dump_fits (λ files n. tt) (λ f stamp n. neither (λ (a : ⊥). a) (λ b. b.2) n)

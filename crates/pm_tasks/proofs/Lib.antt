@@ -1,4 +1,5 @@
 pub mod Asking
+pub mod Checked
 pub mod Coherent
 pub mod Converted
 pub mod Dumped

@@ -9,16 +9,17 @@ use Rattle.pcp_outside.proofs.Crash.{weaker}
 use Rattle.archive_loading.specs.Looks.{Looks}
 use Rattle.archive_loading.specs.Loaded.{Loaded}
 use Rattle.pm_words.specs.declared.refusal.Refusal.{Refusal}
-use Rattle.pm_words.specs.declared.refusal.Refusal.TheVariants.{Condition, Limit, NotLater, Changed, Compressed, NotArchive, Nothing}
+use Rattle.pm_words.specs.declared.refusal.Refusal.TheVariants.{Condition, Limit, NotLater, Changed, Compressed, NotArchive, Nothing, UnsoundItems, UnsoundBoundary, UnsoundLate}
 use Rattle.pm_words.specs.declared.words.ValueWords.{ValueWords}
 use Rattle.pm_words.specs.Meaning.{Meaning}
-use Rattle.pm_words.specs.Refusals.{Stage, AtFiles, AtDisk, AtMemory, IsOfRun, stage_of, status_of}
+use Rattle.pm_words.specs.Refusals.{Stage, AtFiles, AtDisk, AtMemory, IsOfRun, IsOfSoundness, stage_of, status_of}
 use Rattle.pm_words.specs.Serving.{StopCause, StopsAt, HasServed, IsNever, MayLeave, Meets, MeetsSending}
 use Rattle.pm_words.specs.Sides.{DiskSide, Found, disk_side, files_found, Untouched, Leaves}
 use Rattle.pm_words.proofs.Coherent.{IsCoherent}
 use Rattle.pm_words.proofs.Serving.{still_settled, left_alone}
 use Rattle.pm_tasks.specs.Archives.{IsNotLoaded, TurnedAfter, TurnedAt, TurnedAway, looks, takes_any}
 use Rattle.pm_tasks.specs.commands.at as at
+use Rattle.pm_tasks.specs.commands.check as check
 use Rattle.pm_tasks.specs.commands.dump as dump
 use Rattle.pm_tasks.specs.commands.info as info
 use Rattle.pm_tasks.specs.commands.range as range
@@ -29,7 +30,7 @@ abbrev pub IsOfLook : Refusal → Type 0
 IsOfLook (Compressed file) = Unit {0}
 IsOfLook (NotArchive file at) = Unit {0}
 IsOfLook (Nothing stamp) = Unit {0}
-IsOfLook _ = ⊥
+IsOfLook e = IsOfSoundness e
 
 -- over which files such a command refuses, and over which it writes a text
 pub record FitsLook (turned : Found → Refusal → Type 0) (said : Found → List ℕ → Type 0) : Type 0 where
@@ -38,20 +39,52 @@ pub record FitsLook (turned : Found → Refusal → Type 0) (said : Found → Li
   -- a file stands wrapped where one says so, and none does where a text was written
   pub wrapped : (f : Found) (file : FileId) → turned f (Compressed file) → f.wrapped ≡ Some file
   pub unwrapped : (f : Found) (text : List ℕ) → said f text → f.wrapped ≡ None
-  -- nor where nothing was found
+  -- nor where nothing was found, nor where an archive that was read isn't sound
   pub nothing : (f : Found) (stamp : Moment) → turned f (Nothing stamp) → f.wrapped ≡ None
+  pub judged : (f : Found) (e : Refusal) → IsOfSoundness e → turned f e → f.wrapped ≡ None
 
 unloaded_only : (f : Found) (e : Refusal) → IsNotLoaded f e → IsOfLook e
 unloaded_only f (Compressed file) n = tt
 unloaded_only f (NotArchive file at) n = tt
 unloaded_only f _ n = absurd n
 
+-- files that aren't loaded aren't told to be sound or not
+pub not_judged : (f : Found) (e : Refusal) → IsOfSoundness e → IsNotLoaded f e → ⊥
+not_judged f (Compressed file) of n = of
+not_judged f (NotArchive file at) of n = of
+not_judged f _ of n = n
+
 pub info_fits : FitsLook info.IsTurnedAway info.IsOutput
 info_fits = record {
   only = unloaded_only;
   wrapped = λ f file t. t;
   nothing = λ f stamp t. absurd t;
+  judged = λ f e of t. absurd (not_judged f e of t);
   unwrapped = λ f text s. s.1.unwrapped;
+}
+
+-- a command that checks files turns them away for all that it finds of them
+check_only : (f : Found) (e : Refusal) → check.IsTurnedAway f e → IsOfLook e
+check_only f (Compressed file) t = tt
+check_only f (NotArchive file at) t = tt
+check_only f (UnsoundItems first second) t = tt
+check_only f (UnsoundBoundary entry file below above) t = tt
+check_only f (UnsoundLate entry stamp) t = tt
+check_only f _ t = absurd t
+
+check_judged : (f : Found) (e : Refusal) → IsOfSoundness e → check.IsTurnedAway f e → f.wrapped ≡ None
+check_judged f (UnsoundItems first second) of t = t.unwrapped
+check_judged f (UnsoundBoundary entry file below above) of t = t.unwrapped
+check_judged f (UnsoundLate entry stamp) of t = t.unwrapped
+check_judged f _ of t = absurd of
+
+pub check_fits : FitsLook check.IsTurnedAway check.IsOutput
+check_fits = record {
+  only = check_only;
+  wrapped = λ f file t. t;
+  nothing = λ f stamp t. absurd t;
+  judged = check_judged;
+  unwrapped = λ f text s. s.0;
 }
 
 pub neither : {A B : Type 0} → (A → ⊥) → (B → ⊥) → A ⊎ B → ⊥
@@ -64,6 +97,7 @@ asked_fits why said only wrapped unwrapped = record {
   only = λ f e t. ⊎_elim (λ (n : IsNotLoaded f e). unloaded_only f e n) (λ b. only b.0 f e b.2) t;
   wrapped = λ f file t. ⊎_elim (λ (w : f.wrapped ≡ Some file). w) (λ b. absurd (wrapped b.0 f file b.2)) t;
   nothing = λ f stamp t. ⊎_elim (λ (n : ⊥). absurd n) (λ b. b.1.unwrapped) t;
+  judged = λ f e of t. ⊎_elim (λ (n : IsNotLoaded f e). absurd (not_judged f e of n)) (λ b. b.1.unwrapped) t;
   unwrapped = unwrapped;
 }
 
@@ -125,6 +159,9 @@ module _ (turned : Found → Refusal → Type 0) (said : Found → List ℕ → 
   look_wrapped f file (Compressed other) w t = refl
   look_wrapped f file (NotArchive other offset) w t = refl
   look_wrapped f file (Nothing stamp) w t = absurd (not_both f.wrapped file (fits.nothing f stamp t) (fits.wrapped f file w))
+  look_wrapped f file (UnsoundItems first second) w t = absurd (not_both f.wrapped file (fits.judged f (UnsoundItems first second) tt t) (fits.wrapped f file w))
+  look_wrapped f file (UnsoundBoundary entry at below above) w t = absurd (not_both f.wrapped file (fits.judged f (UnsoundBoundary entry at below above) tt t) (fits.wrapped f file w))
+  look_wrapped f file (UnsoundLate entry stamp) w t = absurd (not_both f.wrapped file (fits.judged f (UnsoundLate entry stamp) tt t) (fits.wrapped f file w))
   look_wrapped f file e w t = absurd (fits.only f e t)
 
   -- what such a command is served

@@ -1,4 +1,5 @@
 pub mod at
+pub mod check
 pub mod dump
 pub mod info
 pub mod mmv_dump

@@ -1,6 +1,7 @@
 //! The commands, each in a file of its own.
 
 pub(crate) mod at;
+pub(crate) mod check;
 pub(crate) mod dump;
 pub(crate) mod info;
 pub(crate) mod mmv_dump;

@@ -5,6 +5,7 @@
 mod commands;
 
 pub use commands::at::at;
+pub use commands::check::check;
 pub use commands::dump::dump;
 pub use commands::info::info;
 pub use commands::mmv_dump::mmv_dump;

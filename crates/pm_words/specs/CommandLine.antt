@@ -7,7 +7,7 @@ use Rattle.text_lines.specs.Numbers.{number_of}
 use Rattle.pm_words.specs.declared.words.Command.{Command}
 use Rattle.pm_words.specs.declared.words.Call.{Call}
 use Rattle.pm_words.specs.declared.words.Call.TheVariants as calls
-use Rattle.pm_words.specs.declared.words.Command.TheVariants.{Once, Replay, Make, MmvMake, MmvDump, Dump, Info, Recover, At, Range, Value, Record, Serve}
+use Rattle.pm_words.specs.declared.words.Command.TheVariants.{Once, Replay, Make, MmvMake, MmvDump, Dump, Info, Check, Recover, At, Range, Value, Record, Serve}
 use Rattle.pm_words.specs.declared.refusal.Refusal.{Refusal}
 use Rattle.pm_words.specs.declared.refusal.Refusal.TheVariants.{Usage, NoMemory}
 use Rattle.pm_words.specs.declared.words.BadWord.{BadWord}
@@ -132,6 +132,7 @@ abbrev pub archive_command_of : List ℕ → List (List ℕ) → Result Command 
 archive_command_of word words =
     if bytes_eq word (codes "dump") then end_then Dump 1 words else
     if bytes_eq word (codes "info") then end_then Info 1 words else
+    if bytes_eq word (codes "check") then end_then Check 1 words else
     if bytes_eq word (codes "recover") then end_then Recover 1 words else image_command_of word words
 
 -- those that ask an archive by time

@@ -4,6 +4,8 @@ use Rattle.std.specs.Fmt.{decimal}
 use Rattle.pcp_base.specs.declared.file.FileId.{FileId}
 use Rattle.pcp_base.specs.declared.file.FileId.TheVariants.{Meta, Index, Volume}
 use Rattle.pcp_outside.specs.Causes.{Rose}
+use Rattle.archive_check.specs.declared.fault.CheckFault.{CheckFault}
+use Rattle.archive_check.specs.declared.fault.CheckFault.TheVariants as checking
 use Rattle.archive_reader.specs.declared.fault.ReaderFault.{ReaderFault}
 use Rattle.archive_reader.specs.declared.fault.ReaderFault.TheVariants as faults
 use Rattle.archive_recovery.specs.declared.outcome.RecoverFault.{RecoverFault}
@@ -18,7 +20,7 @@ use Rattle.script_runs.specs.declared.ending.Ending.TheVariants as ends
 use Rattle.script_runs.specs.declared.ending.LimitKind.{LimitKind}
 use Rattle.script_runs.specs.declared.ending.LimitKind.TheVariants as kinds
 use Rattle.pm_words.specs.declared.refusal.Refusal.{Refusal}
-use Rattle.pm_words.specs.declared.refusal.Refusal.TheVariants.{Usage, ReadFault, InputLimit, Image, Line, Script, Condition, Limit, NotLater, Changed, Compressed, NotArchive, Nothing, DiskFault, ClockEnd, ClockFault, Accept, NoMemory}
+use Rattle.pm_words.specs.declared.refusal.Refusal.TheVariants.{Usage, ReadFault, InputLimit, Image, Line, Script, Condition, Limit, NotLater, Changed, Compressed, NotArchive, Nothing, UnsoundItems, UnsoundBoundary, UnsoundLate, DiskFault, ClockEnd, ClockFault, Accept, NoMemory}
 
 -- of a script that has too many regions the limit is told
 abbrev pub script_status : ScriptLineFault → ℕ
@@ -39,6 +41,9 @@ status_of (Changed pmid) = 13
 status_of (Compressed file) = 6
 status_of (NotArchive file at) = 6
 status_of (Nothing stamp) = 11
+status_of (UnsoundItems first second) = 10
+status_of (UnsoundBoundary entry file below above) = 10
+status_of (UnsoundLate entry stamp) = 10
 status_of DiskFault = 5
 status_of (ClockEnd left) = 8
 status_of (ClockFault left) = 20
@@ -78,6 +83,11 @@ line_of (Changed pmid) = codes "changed " ++ (pmid_text pmid ++ 10 ∷ [])
 line_of (Compressed file) = codes "compressed " ++ (file_name file ++ 10 ∷ [])
 line_of (NotArchive file at) = codes "not archive " ++ (file_name file ++ (32 ∷ (decimal at ++ 10 ∷ [])))
 line_of (Nothing stamp) = codes "nothing at " ++ (decimal stamp.sec ++ (32 ∷ (decimal stamp.usec ++ 10 ∷ [])))
+line_of (UnsoundItems first second) =
+    codes "unsound items " ++ (decimal first.sec ++ (32 ∷ (decimal first.usec ++ (32 ∷ (decimal second.sec ++ (32 ∷ (decimal second.usec ++ 10 ∷ [])))))))
+line_of (UnsoundBoundary entry file below above) =
+    codes "unsound boundary " ++ (decimal entry ++ (32 ∷ (file_name file ++ (32 ∷ (decimal below ++ (32 ∷ (decimal above ++ 10 ∷ [])))))))
+line_of (UnsoundLate entry stamp) = codes "unsound late " ++ (decimal entry ++ (32 ∷ (decimal stamp.sec ++ (32 ∷ (decimal stamp.usec ++ 10 ∷ [])))))
 line_of DiskFault = codes "disk fault\n"
 line_of (ClockEnd left) = codes "clock end " ++ (decimal left ++ 10 ∷ [])
 line_of (ClockFault left) = codes "clock fault " ++ (decimal left ++ 10 ∷ [])
@@ -127,12 +137,26 @@ IsOfRun (NotLater last) = Unit {0}
 IsOfRun (Changed pmid) = Unit {0}
 IsOfRun _ = ⊥
 
+-- the archive was read, and isn't sound
+abbrev pub IsOfSoundness : Refusal → Type 0
+IsOfSoundness (UnsoundItems first second) = Unit {0}
+IsOfSoundness (UnsoundBoundary entry file below above) = Unit {0}
+IsOfSoundness (UnsoundLate entry stamp) = Unit {0}
+IsOfSoundness _ = ⊥
+
 -- a reader's fault, as a refusal
 abbrev pub reader_refusal : ReaderFault → Refusal
 reader_refusal (faults.Compressed file) = Compressed file
 reader_refusal (faults.NotArchive file at) = NotArchive file at
 reader_refusal faults.DiskFault = DiskFault
 reader_refusal faults.NoMemory = NoMemory
+
+-- a breach of an archive that was read, or a reader's fault
+abbrev pub check_refusal : CheckFault → Refusal
+check_refusal (checking.Items first second) = UnsoundItems first second
+check_refusal (checking.Boundary entry file below above) = UnsoundBoundary entry file below above
+check_refusal (checking.Late entry stamp) = UnsoundLate entry stamp
+check_refusal (checking.Reader fault) = reader_refusal fault
 
 -- and a fault of recovery
 abbrev pub recover_refusal : RecoverFault → Refusal

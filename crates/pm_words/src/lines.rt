@@ -1,7 +1,7 @@
 //! The last lines of refusals that have a number or a name.
 ghost use Rattle.std.specs.Prelude.{◌≡◌, IfOk, string_bytes};
 ghost use Rattle.pm_words.specs.Refusals.{file_name, limit_name, line_of, script_line, script_status};
-ghost use Rattle.pm_words.specs.declared.refusal.Refusal.TheVariants.{Changed, ClockEnd, ClockFault, Compressed, Limit, NotArchive, NotLater, Nothing, Usage};
+ghost use Rattle.pm_words.specs.declared.refusal.Refusal.TheVariants.{Changed, ClockEnd, ClockFault, Compressed, Limit, NotArchive, NotLater, Nothing, UnsoundBoundary, UnsoundItems, UnsoundLate, Usage};
 
 use pcp_base::{Bytes, FileId, List, NoMemory, Pmid, Stamp};
 use pm_print::line_fault_text;
@@ -113,6 +113,45 @@ pub(crate) fn nothing_line(alloc: Global, stamp: Stamp) -> Result<Bytes, NoMemor
     let sec = stamp.sec();
     let usec = stamp.usec();
     let line = format!(in alloc; "nothing at {sec} {usec}\n")?;
+    Ok(List::from_vec(line.into_bytes()))
+}
+
+pub(crate) fn unsound_items_line(
+    alloc: Global,
+    first: Stamp,
+    second: Stamp,
+) -> Result<Bytes, NoMemory>
+    ensures { IfOk result (λ line. line ≡ line_of (UnsoundItems first second)) }
+{
+    let sec = first.sec();
+    let usec = first.usec();
+    let next_sec = second.sec();
+    let next_usec = second.usec();
+    let line = format!(in alloc; "unsound items {sec} {usec} {next_sec} {next_usec}\n")?;
+    Ok(List::from_vec(line.into_bytes()))
+}
+
+pub(crate) fn unsound_boundary_line(
+    alloc: Global,
+    entry: u64,
+    file: FileId,
+    below: u64,
+    above: u64,
+) -> Result<Bytes, NoMemory>
+    ensures { IfOk result (λ line. line ≡ line_of (UnsoundBoundary entry file below above)) }
+{
+    let name = file_name(alloc, file)?;
+    let name = name.as_str();
+    let line = format!(in alloc; "unsound boundary {entry} {name} {below} {above}\n")?;
+    Ok(List::from_vec(line.into_bytes()))
+}
+
+pub(crate) fn unsound_late_line(alloc: Global, entry: u64, stamp: Stamp) -> Result<Bytes, NoMemory>
+    ensures { IfOk result (λ line. line ≡ line_of (UnsoundLate entry stamp)) }
+{
+    let sec = stamp.sec();
+    let usec = stamp.usec();
+    let line = format!(in alloc; "unsound late {entry} {sec} {usec}\n")?;
     Ok(List::from_vec(line.into_bytes()))
 }
 

@@ -4,8 +4,10 @@ ghost use Rattle.pm_words.specs.Refusals.{IsNumbered, Wrote, ending_refusal, lin
 
 use crate::lines::{
     changed_line, clock_end_line, clock_fault_line, compressed_line, limit_line, misfit_line,
-    not_later_line, nothing_line, script_line, script_status, usage_line,
+    not_later_line, nothing_line, script_line, script_status, unsound_boundary_line,
+    unsound_items_line, unsound_late_line, usage_line,
 };
+use archive_check::CheckFault;
 use archive_reader::ReaderFault;
 use archive_recovery::RecoverFault;
 use mmv_layout::ImageFault;
@@ -21,7 +23,9 @@ use std::alloc::Global;
 #[derive(Clone, Copy)]
 pub enum Refusal {
     /// The word at this index is bad, or is missing.
-    Usage { at: usize },
+    Usage {
+        at: usize,
+    },
     /// The source failed.
     ReadFault,
     /// The source holds more than 16 MiB.
@@ -33,25 +37,63 @@ pub enum Refusal {
     /// The input is no script.
     Script(ScriptFault),
     /// The condition of this line of the script fails in its run.
-    Condition { line: u32 },
+    Condition {
+        line: u32,
+    },
     /// `number` is above the limit: so many metrics, bytes or volumes would be needed.
-    Limit { what: LimitKind, number: u64 },
+    Limit {
+        what: LimitKind,
+        number: u64,
+    },
     /// A result isn't stamped after all that the archive has; this is the greatest stamp.
-    NotLater { last: Stamp },
+    NotLater {
+        last: Stamp,
+    },
     /// The archive describes the metric otherwise.
-    Changed { pmid: Pmid },
+    Changed {
+        pmid: Pmid,
+    },
     /// The file stands under its name with `.xz` or `.gz` added.
-    Compressed { file: FileId },
+    Compressed {
+        file: FileId,
+    },
     /// The file fits no archive from this byte on.
-    NotArchive { file: FileId, at: u64 },
+    NotArchive {
+        file: FileId,
+        at: u64,
+    },
     /// Nothing that was asked for is there at this moment.
-    Nothing { stamp: Stamp },
+    Nothing {
+        stamp: Stamp,
+    },
+    /// The archive isn't sound: an item is stamped before the one before it.
+    UnsoundItems {
+        first: Stamp,
+        second: Stamp,
+    },
+    /// It isn't sound: the entry at this position of the index, counted from 0, says an offset of a file that is no record boundary; the
+    /// boundaries next to it are these.
+    UnsoundBoundary {
+        entry: u64,
+        file: FileId,
+        below: u64,
+        above: u64,
+    },
+    /// It isn't sound: a record before that entry's offsets is stamped so, after the entry.
+    UnsoundLate {
+        entry: u64,
+        stamp: Stamp,
+    },
     /// The disk failed.
     DiskFault,
     /// The clock's moments had ended, and so many samples were to come.
-    ClockEnd { left: u32 },
+    ClockEnd {
+        left: u32,
+    },
     /// The clock failed, and so many samples were to come.
-    ClockFault { left: u32 },
+    ClockFault {
+        left: u32,
+    },
     /// A door failed.
     Accept,
     NoMemory,
@@ -78,6 +120,31 @@ impl From<ReaderFault> for Refusal {
             ReaderFault::NotArchive { file, at } => Refusal::NotArchive { file, at },
             ReaderFault::DiskFault => Refusal::DiskFault,
             ReaderFault::NoMemory => Refusal::NoMemory,
+        }
+    }
+}
+
+impl From<CheckFault> for Refusal {
+    ghost use Rattle.pm_words.specs.Refusals.{check_refusal};
+
+    ghost from_gives = { λ fault e. e ≡ check_refusal fault };
+
+    fn from(fault: CheckFault) -> Refusal {
+        match fault {
+            CheckFault::Items { first, second } => Refusal::UnsoundItems { first, second },
+            CheckFault::Boundary {
+                entry,
+                file,
+                below,
+                above,
+            } => Refusal::UnsoundBoundary {
+                entry,
+                file,
+                below,
+                above,
+            },
+            CheckFault::Late { entry, stamp } => Refusal::UnsoundLate { entry, stamp },
+            CheckFault::Reader(fault) => Refusal::from(fault),
         }
     }
 }
@@ -117,7 +184,7 @@ pub fn of_ending(ending: Ending) -> Option<Refusal>
 }
 
 impl Refusal {
-    /// The exit status: 1 to 3, 5 to 9, 11 to 13, 20 or 21. Of a sink that fails (4) nothing can be told.
+    /// The exit status: 1 to 3, 5 to 13, 20 or 21. Of a sink that fails (4) nothing can be told.
     pub fn status(&self) -> u8
         ensures { result ≡ status_of self.now }
     {
@@ -131,6 +198,9 @@ impl Refusal {
             Refusal::InputLimit | Refusal::Limit { .. } => 7,
             Refusal::ClockEnd { .. } => 8,
             Refusal::NoMemory => 9,
+            Refusal::UnsoundItems { .. }
+            | Refusal::UnsoundBoundary { .. }
+            | Refusal::UnsoundLate { .. } => 10,
             Refusal::Nothing { .. } => 11,
             Refusal::NotLater { .. } => 12,
             Refusal::Changed { .. } => 13,
@@ -173,6 +243,14 @@ impl Refusal {
             Refusal::Compressed { file } => compressed_line(alloc, *file),
             Refusal::NotArchive { file, at } => misfit_line(alloc, *file, *at),
             Refusal::Nothing { stamp } => nothing_line(alloc, *stamp),
+            Refusal::UnsoundItems { first, second } => unsound_items_line(alloc, *first, *second),
+            Refusal::UnsoundBoundary {
+                entry,
+                file,
+                below,
+                above,
+            } => unsound_boundary_line(alloc, *entry, *file, *below, *above),
+            Refusal::UnsoundLate { entry, stamp } => unsound_late_line(alloc, *entry, *stamp),
             Refusal::ClockEnd { left } => clock_end_line(alloc, *left),
             Refusal::ClockFault { left } => clock_fault_line(alloc, *left),
             // Their lines have no number.

@@ -28,6 +28,8 @@ pub enum Command {
     Dump,
     /// `info`: write an archive's descriptions.
     Info,
+    /// `check`: write how many items an archive has, if it is sound.
+    Check,
     /// `recover`: mend an archive that was stopped anywhere, and write how many items it has.
     Recover,
     /// `at SEC USEC`: write the last item that isn't after a moment.
@@ -388,6 +390,10 @@ fn archive_words(name: &[u8], words: &[String]) -> Result<Command, BadWord>
     if name == b"info".as_slice() {
         end_at(words, 1)?;
         return Ok(Command::Info);
+    }
+    if name == b"check".as_slice() {
+        end_at(words, 1)?;
+        return Ok(Command::Check);
     }
     if name == b"recover".as_slice() {
         end_at(words, 1)?;

@@ -22,6 +22,9 @@ returns-in-Dump g c = record { meets = sending (sink_side g.O.Sink c.args.out.no
 pub returns-in-Info : goal.returns-in-Info
 returns-in-Info g c = record { meets = without_regions g.O.Sink c.args.out.now c.args.failed.now c.requires.fresh c.args.input.now g.D.Disk c.args.disk.now c.info.new.disk c.args.opened.now c.info.result _ c.args.command.now c.in-Info.is c.requires.closed (c.info.ensures.meets c.args.input.now) }
 
+pub returns-in-Check : goal.returns-in-Check
+returns-in-Check g c = record { meets = without_regions g.O.Sink c.args.out.now c.args.failed.now c.requires.fresh c.args.input.now g.D.Disk c.args.disk.now c.check.new.disk c.args.opened.now c.check.result _ c.args.command.now c.in-Check.is c.requires.closed (c.check.ensures.meets c.args.input.now) }
+
 pub returns-in-Recover : goal.returns-in-Recover
 returns-in-Recover g c = record { meets = without_regions g.O.Sink c.args.out.now c.args.failed.now c.requires.fresh c.args.input.now g.D.Disk c.args.disk.now c.recover.new.disk c.args.opened.now c.recover.result _ c.args.command.now c.in-Recover.is c.requires.closed (c.recover.ensures.meets c.args.input.now) }
 
