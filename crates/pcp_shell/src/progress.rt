@@ -1,11 +1,12 @@
-//! What a recording has logged so far, counted at its disk and told before each of its samples.
+//! What a recording has logged and made sure so far, counted at its disk and told before each of its samples.
 ghost use Rattle.std.specs.Prelude.{◌≡◌};
 
 use pcp_outside::{Disk, Failed, FileId, LOGGER, Turn};
 use std::io::Print;
+use std::mem;
 use std::sync::atomic::{AtomicU64, Ordering};
 
-/// What was logged: how many results, and how many bytes of all files.
+/// What is sure of what was logged: how many results, and how many bytes of all files.
 #[derive(Drop)]
 pub struct Progress {
     results: AtomicU64,
@@ -21,12 +22,54 @@ impl Progress {
     }
 }
 
-/// A disk whose appends are counted.
+/// What was appended and isn't sure yet: so many bytes of each kind of file, and so many results. A volume is made sure before the next
+/// one is begun.
+#[derive(Drop)]
+struct Unsure {
+    meta: u64,
+    index: u64,
+    volume: u64,
+    results: u64,
+}
+
+impl Unsure {
+    fn nothing() -> Unsure {
+        Unsure {
+            meta: 0,
+            index: 0,
+            volume: 0,
+            results: 0,
+        }
+    }
+
+    fn append(&mut self, file: FileId, bytes: u64) {
+        match file {
+            FileId::Meta => self.meta = self.meta.saturating_add(bytes),
+            FileId::Index => self.index = self.index.saturating_add(bytes),
+            FileId::Volume(_) => self.volume = self.volume.saturating_add(bytes),
+        }
+    }
+
+    // A file is sure: how many results and how many bytes came with it.
+    fn sync(&mut self, file: FileId) -> (u64, u64) {
+        match file {
+            FileId::Meta => (0, mem::replace(&mut self.meta, 0)),
+            FileId::Index => (0, mem::replace(&mut self.index, 0)),
+            FileId::Volume(_) => (
+                mem::replace(&mut self.results, 0),
+                mem::replace(&mut self.volume, 0),
+            ),
+        }
+    }
+}
+
+/// A disk at which it is counted what is appended, and of that what is made sure.
 #[derive(Drop)]
 pub struct CountedDisk<'a, D: Disk + Drop> {
     disk: D,
     // One more than the greatest number of a volume that isn't empty: what is appended first to a volume is its label.
     volumes: u32,
+    unsure: Unsure,
     progress: &'a Progress,
 }
 
@@ -35,6 +78,7 @@ impl<'a, D: Disk + Drop> CountedDisk<'a, D> {
         CountedDisk {
             disk,
             volumes: 0,
+            unsure: Unsure::nothing(),
             progress,
         }
     }
@@ -48,17 +92,24 @@ impl<'a, D: Disk + Drop> CountedDisk<'a, D> {
     fn count(&mut self, file: FileId, bytes: usize)
         ensures { self.new.disk ≡ self.old.disk }
     {
-        self.progress
-            .bytes
-            .fetch_add(bytes as u64, Ordering::SeqCst);
+        self.unsure.append(file, bytes as u64);
         let FileId::Volume(number) = file else {
             return;
         };
         if number < self.volumes {
-            self.progress.results.fetch_add(1, Ordering::SeqCst);
+            self.unsure.results = self.unsure.results.saturating_add(1);
         } else {
             self.volumes = number.saturating_add(1);
         }
+    }
+
+    // What was appended to a file is sure from now on.
+    fn count_sure(&mut self, file: FileId)
+        ensures { self.new.disk ≡ self.old.disk }
+    {
+        let (results, bytes) = self.unsure.sync(file);
+        self.progress.results.fetch_add(results, Ordering::SeqCst);
+        self.progress.bytes.fetch_add(bytes, Ordering::SeqCst);
     }
 }
 
@@ -106,7 +157,9 @@ impl<'a, D: Disk + Drop> Disk for CountedDisk<'a, D> {
     }
 
     fn sync(&mut self, file: FileId) -> Result<(), Failed> {
-        self.disk.sync(file)
+        self.disk.sync(file)?;
+        self.count_sure(file);
+        Ok(())
     }
 
     fn cut(&mut self, file: FileId, len: u64) -> Result<(), Failed> {
@@ -118,8 +171,8 @@ impl<'a, D: Disk + Drop> Disk for CountedDisk<'a, D> {
     }
 }
 
-/// Turns of which some are told on a screen: before each of so many samples its number, and what was logged before it. Where there is
-/// no such number nothing is told, and where the screen fails nothing else changes.
+/// Turns of which some are told on a screen: before each of so many samples its number, and what was logged and made sure before it. Where
+/// there is no such number nothing is told, and where the screen fails nothing else changes.
 #[derive(Drop)]
 pub struct ToldTurn<'a, T: Turn + Drop, P: Print> {
     turn: T,

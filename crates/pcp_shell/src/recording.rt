@@ -30,8 +30,8 @@ fn samples_to_tell<P: IsTerminal>(alloc: Global, words: &[String], screen: &P) -
 }
 
 /// Records as the words ask, by the system's clock, with a second between the samples, and answers the exit status of `run_record` and the disk.
-/// Where there are several samples, and `screen` is a terminal, a line there tells before each what was logged so far; nothing else
-/// changes by that, also where the screen fails.
+/// Where there are several samples, and `screen` is a terminal, a line there tells before each what was logged and made sure so far; nothing
+/// else changes by that, also where the screen fails.
 pub fn record_samples<R, I, O, D, P>(
     rt: &R,
     words: &[String],

@@ -16,10 +16,12 @@ const SCRIPT: &[u8] =
     b"image A\nmmv 1 5 0 0 1\nmetric hits 2 i32 counter 00100000 - - -\nvalue 2 - 7\nend\n\
 region app A 32 2\nlog mandatory on every 1 sec { mmv }\nstart\nattach app 0\nadd app 0 2 - 5\ndetach app 0\n";
 
-// Before the second of two samples the three labels, a description and the result of the first one stand in the files.
-const LINES: [&str; 2] = [
-    "sample 1 of 2: results 0, bytes 0",
-    "sample 2 of 2: results 1, bytes 488",
+// Before the second of three samples the three labels (132 bytes each), a description (52) and the result of the first one (40) are sure, and
+// before the third one more result is: nothing is put into the index for it.
+const LINES: [&str; 3] = [
+    "sample 1 of 3: results 0, bytes 0",
+    "sample 2 of 3: results 1, bytes 488",
+    "sample 3 of 3: results 2, bytes 528",
 ];
 
 // Counts its lines, tells whether one isn't the line of its number, and always fails.
@@ -111,9 +113,10 @@ fn lines_of<R: Threads + Wait + Clock + Alloc<A = Global> + Sync>(
     Ok(screen.count())
 }
 
+// Only what is sure is told, and each sample is sure before the next one is waited for.
 #[test]
 fn samples_are_told_on_a_terminal(rt: HostRuntime) -> Result<(), Fail> {
-    assert_eq!(rt; lines_of(&rt, "record 2 1048576", true)?, Some(2));
+    assert_eq!(rt; lines_of(&rt, "record 3 1048576", true)?, Some(3));
     assert_eq!(rt; lines_of(&rt, "record 2 1048576", false)?, Some(0));
     assert_eq!(rt; lines_of(&rt, "record 1 1048576", true)?, Some(0));
     Ok(())

@@ -102,8 +102,8 @@ impl<'a, R: Clock> Turn for Held<'a, R> {
     }
 }
 
-// A recording: its words, the steps of its script, the seconds of its clock, which calls of each object fail, and whether the archive is a
-// label that was begun, which recovery cuts off.
+// A recording: its words, the steps of its script, the seconds of its clock, which calls of each object fail, whether the archive is a
+// label that was begun, which recovery cuts off, and how many calls change a file.
 #[derive(Clone, Copy)]
 struct Case {
     line: &'static str,
@@ -114,6 +114,7 @@ struct Case {
     clock_fails: &'static [u64],
     disk_fails: &'static [u64],
     is_begun: bool,
+    changes: usize,
     holds: &'static [Hold],
 }
 
@@ -127,6 +128,7 @@ const ONE: Case = Case {
     clock_fails: &[],
     disk_fails: &[],
     is_begun: false,
+    changes: 0,
     holds: &[],
 };
 
@@ -285,9 +287,10 @@ fn beside(rt: HostRuntime) -> Result<(), Fail> {
 }
 
 // How recordings end. Where the clock ends or fails, and where the disk fails at its first call, in the recovery or for the first sample,
-// the writers run all the same. A reading is no step of a writer. The script comes by the first call of the source, and its end by the
-// second one.
-const ENDINGS: [(Case, u8, &[u8], Option<[u32; 2]>); 7] = [
+// the writers run all the same; so they do where it fails as the first of two samples is to be made sure, behind an append and a sync for each
+// of three labels and for Meta's records, and the append of the sample. A reading is no step of a writer. The script comes by the first call
+// of the source, and its end by the second one.
+const ENDINGS: [(Case, u8, &[u8], Option<[u32; 2]>); 8] = [
     (
         Case {
             source_fails: &[1],
@@ -328,6 +331,7 @@ const ENDINGS: [(Case, u8, &[u8], Option<[u32; 2]>); 7] = [
         Case {
             disk_fails: &[2],
             is_begun: true,
+            changes: 1,
             ..ONE
         },
         5,
@@ -346,6 +350,17 @@ const ENDINGS: [(Case, u8, &[u8], Option<[u32; 2]>); 7] = [
     ),
     (
         Case {
+            line: "record 2 1048576",
+            disk_fails: &[10],
+            changes: 9,
+            ..ONE
+        },
+        5,
+        b"disk fault\n",
+        Some([17, 17]),
+    ),
+    (
+        Case {
             steps: b"load app 0\ndone app 0\n",
             ..ONE
         },
@@ -355,15 +370,12 @@ const ENDINGS: [(Case, u8, &[u8], Option<[u32; 2]>); 7] = [
     ),
 ];
 
-// Nothing is done to any file, but for the label that was begun.
+// Nothing more is done to any file, and nothing at all before the first sample but for the label that was begun.
 #[test]
 fn endings(rt: HostRuntime) -> Result<(), Fail> {
     for (case, status, told, left) in &ENDINGS {
         let ran = record(&rt, rt.alloc(), case, told)?;
-        assert!(rt;
-            ran.is_told && ran.moments == usize::from(case.is_begun),
-            "{status}"
-        );
+        assert!(rt; ran.is_told && ran.moments == case.changes, "{status}");
         assert_eq!(rt; (ran.status, ran.left), (*status, *left));
     }
     Ok(())
