@@ -1,17 +1,15 @@
 -- How a disk goes on with a session, event by event: what it holds behind each of them, and what a crash leaves from then on.
-use Rattle.std.specs.Prelude.{◌≡◌, ◌⊎◌, ℕ, List, [], ◌∷◌, ◌++◌}
+use Rattle.std.specs.Prelude.{◌≡◌, ◌⊎◌, ℕ, List, [], ◌++◌}
 use Rattle.pcp_base.specs.declared.file.FileId.{FileId}
 use Rattle.pcp_base.specs.declared.result.Item.{Item}
-use Rattle.pcp_base.specs.declared.result.Item.TheVariants.{Sample}
 use Rattle.pcp_model.specs.Disk.{Files, contents_of}
 use Rattle.pcp_model.specs.LabelFields.{LabelFields}
 use Rattle.pcp_outside.specs.Devices.{LeavesOnly}
 use Rattle.pcp_outside.specs.declared.disk.Disk.{Ghosts as DiskGhosts}
 use Rattle.logger_core.specs.declared.fault.LogFault.{LogFault}
 use Rattle.logger_core.specs.declared.fault.LogFault.TheVariants.{Closed, Large, NotLater, Changed, Full, NoMemory, DiskFault}
-use Rattle.logging_session.specs.Answers.{WouldLog}
 use Rattle.logging_session.specs.ComingBack.{ComesBackTo}
-use Rattle.logging_session.specs.Events.{Event, LeadFrom, acknowledged_by, items_by, opening}
+use Rattle.logging_session.specs.Events.{EndsLogged, Event, LeadFrom, acknowledged_by, items_by, opening}
 use Rattle.logging_session.specs.Keeping.{Carried, IsClosed, Keeps}
 use Rattle.logging_session.specs.Written.{Refuses, Report, Stand, Written, files_of}
 
@@ -22,17 +20,18 @@ pub record LeadsTo (l : LabelFields) (limit : ℕ) (left : Files) (events : List
   pub are : (file : FileId) → files file ≡ files_of stand file
 
 module _ {D : Type 0} (d : DiskGhosts D) (l : LabelFields) (limit : ℕ) (left : Files) where
-  -- At some moment since then the disk held what these events led to. A crash before that moment leaves the first ones of the items, and one
-  -- from that moment on all that the events acknowledge among them.
+  -- At some moment since then the disk held what these events led to. A crash before that moment leaves the first ones of their items, and one
+  -- from that moment on the first ones of all items, all that the events acknowledge among them.
   pub record HasPassed (events : List Event) (items : List Item) (old new : D) : Type 0 where
     pub at : D
-    pub before : LeavesOnly d.moment d.left_since old at (ComesBackTo items 0 left)
+    pub before : LeavesOnly d.moment d.left_since old at (ComesBackTo (items_by events) 0 left)
     pub files : LeadsTo l limit left events (contents_of (d.held at))
     pub since : LeavesOnly d.moment d.left_since at new (ComesBackTo items (acknowledged_by events) left)
 
-  -- So it was behind the first ones of these events, however many. The items are theirs, and perhaps one that was on its way.
+  -- So it was before the first of these events, behind the opening, and behind each flush and sync. Results are written several at a time, so
+  -- that nothing is said of a moment behind each of them. The items are those of the events, and perhaps more that were on their way.
   abbrev pub WentBy : List Event → List Item → D → D → Type 0
-  WentBy events more old new = (front rest : List Event) → events ≡ front ++ rest → HasPassed front (items_by events ++ more) old new
+  WentBy events more old new = (front rest : List Event) → events ≡ front ++ rest → (EndsLogged front → ⊥) → HasPassed front (items_by events ++ more) old new
 
 -- what a session keeps, and how the disk came to it from that moment on
 pub record HasKept {D : Type 0} (d : DiskGhosts D) (left : Files) (events : List Event) (start : D) (s : Carried) (disk : D) : Type 0 where
@@ -47,7 +46,7 @@ module _ {D : Type 0} (d : DiskGhosts D) (left : Files) (events : List Event) (r
     pub lead : LeadFrom old.label old.limit left (opening r.result.stamp events) (Stand.opened w)
     pub refuses : Refuses old.limit r w fault
 
-  -- What a result leaves that isn't logged. Where the disk failed it may have been on its way, if the archive takes it.
+  -- What a result leaves that isn't logged. The disk fails only where the archive was to be opened for it.
   abbrev pub HasNotLogged : LogFault → Type 0
   HasNotLogged Closed = IsClosed old × HasKept d left events start new disk
   HasNotLogged (Large bytes) = HasTurnedAway (Large bytes)
@@ -55,11 +54,10 @@ module _ {D : Type 0} (d : DiskGhosts D) (left : Files) (events : List Event) (r
   HasNotLogged (Changed pmid) = HasTurnedAway (Changed pmid)
   HasNotLogged (Full file bytes) = HasTurnedAway (Full file bytes)
   HasNotLogged NoMemory = HasKept d left events start new disk ⊎ HasKept d left (opening r.result.stamp events) start new disk
-  HasNotLogged DiskFault =
-      WentBy d old.label old.limit left events [] start disk
-      ⊎ (WentBy d old.label old.limit left (opening r.result.stamp events) (Sample r.result ∷ []) start disk × WouldLog old left (opening r.result.stamp events) r)
+  HasNotLogged DiskFault = WentBy d old.label old.limit left events [] start disk
 
--- What a flush or a sync leaves that is refused: a closed session as it was, and where the disk failed all that there was.
+-- What a write, a flush or a sync leaves that is refused: a closed session as it was, and where the disk failed all that there was, of which
+-- what was held may have been on its way.
 module _ {D : Type 0} (d : DiskGhosts D) (left : Files) (events : List Event) (start : D) (old new : Carried) (disk : D) where
   abbrev pub HasNotFlushed : LogFault → Type 0
   HasNotFlushed Closed = IsClosed old × HasKept d left events start new disk

@@ -24,6 +24,18 @@ opening stamp (e ∷ events) = e ∷ events
 abbrev pub with_report : List Event → Report → List Event
 with_report events r = opening r.result.stamp events ++ Event.logged r ∷ []
 
+-- the last of these events logged a result
+abbrev pub EndsLogged : List Event → Type 0
+EndsLogged [] = ⊥
+EndsLogged (Event.logged r ∷ []) = Unit {0}
+EndsLogged (e ∷ []) = ⊥
+EndsLogged (e ∷ f ∷ events) = EndsLogged (f ∷ events)
+
+-- results that were logged one behind another
+abbrev pub logged_all : List Report → List Event
+logged_all [] = []
+logged_all (r ∷ reports) = Event.logged r ∷ logged_all reports
+
 -- before it is open there is nothing to flush
 abbrev pub behind : List Event → Event → List Event
 behind [] event = []

@@ -1,24 +1,28 @@
 -- What a session keeps of its archive, and what the disk then holds: what recovery left, until it is opened, and from then on a logger
--- of what was opened.
-use Rattle.std.specs.Prelude.{◌≡◌, ◌⊎◌, ℕ, ◌+◌, ◌≤◌, false, List, [], ◌++◌, length, Contains, None}
+-- of what was opened, with the results that it holds to be written.
+use Rattle.std.specs.Prelude.{◌≡◌, ◌⊎◌, ℕ, ◌+◌, ◌≤◌, false, List, [], ◌++◌, length, map, Contains, None}
 use Rattle.std.specs.List.{AllByRecursion}
 use Rattle.pcp_base.specs.declared.file.FileId.{FileId}
 use Rattle.pcp_base.specs.declared.result.Item.{Item}
+use Rattle.pcp_base.specs.declared.result.PmResult.{PmResult}
 use Rattle.pcp_model.specs.Archive.{ArchiveReading, Reads, items_of}
 use Rattle.pcp_model.specs.Disk.{Files, Holdings, IsSettled, contents_of}
 use Rattle.pcp_model.specs.LabelFields.{LabelFields}
 use Rattle.pcp_model.specs.Recovered.{Recovers}
 use Rattle.pcp_outside.specs.Causes.{shown_count}
-use Rattle.logger_core.specs.Meant.{Meant, Kept, IsLogger}
+use Rattle.logger_core.specs.Grouping.{Told}
+use Rattle.logger_core.specs.Held.{counts_of}
+use Rattle.logger_core.specs.Holding.{HasRoomBeside, HeldBack, IsHolding}
+use Rattle.logger_core.specs.Meant.{Meant}
 use Rattle.logger_core.specs.Reopening.{IsLeft}
 use Rattle.logging_session.specs.declared.place.Place.{Place}
 use Rattle.logging_session.specs.declared.place.Place.TheVariants.{Found, Open, Lost, Failed}
 use Rattle.logging_session.specs.Events.{Event, LeadFrom, items_by, acknowledged_by}
-use Rattle.logging_session.specs.Written.{OpensFound, Stand, Written}
+use Rattle.logging_session.specs.Written.{OpensFound, Report, Stand, Written}
 
 -- What a session is seen as: the label of an archive that it would make (but for its moment), the volume limit, how many results it
 -- logged, and where its archive stands: as recovery left it; with a logger that goes on with it; or nothing more is logged, since
--- memory was refused when it was to be opened, or the disk failed.
+-- memory was refused when it was to be opened, or the disk failed, which lost so many results that were held.
 pub record Carried : Type 0 where
   pub label : LabelFields
   pub limit : ℕ
@@ -28,15 +32,32 @@ pub record Carried : Type 0 where
 -- a logger that is kept may log, and has the session's volume limit
 abbrev pub MayLog : ℕ → Place → Type 0
 MayLog limit (Found archive) = Unit {0}
-MayLog limit (Open kept) = (kept.closed ≡ false) × (kept.limit ≡ limit)
+MayLog limit (Open b) = (b.kept.closed ≡ false) × (b.kept.limit ≡ limit)
 MayLog limit Lost = Unit {0}
-MayLog limit Failed = Unit {0}
+MayLog limit (Failed lost) = Unit {0}
+
+-- how many results are held to be written
+abbrev pub held_in : Place → ℕ
+held_in (Open b) = counts_of b.runs
+held_in place = 0
+
+-- how many that were held when the disk failed weren't written
+abbrev pub lost_in : Place → ℕ
+lost_in (Failed lost) = lost
+lost_in place = 0
 
 -- what holds of every session
-pub record IsSession (limit : ℕ) (place : Place) : Type 0 where
+pub record IsSession (limit logged : ℕ) (place : Place) : Type 0 where
   pub low : 1024 ≤ limit
   pub high : limit ≤ 1073741824
   pub logger : MayLog limit place
+  pub held : held_in place ≤ logged
+  pub lost : lost_in place ≤ logged
+
+-- a result may be held beside those that are
+abbrev pub HasRoomIn : Place → PmResult → Type 0
+HasRoomIn (Open b) answer = HasRoomBeside b.runs answer
+HasRoomIn place answer = Unit {0}
 
 -- what a logger means of an archive that was opened first
 abbrev pub meant_of : Written → Written → ℕ → Meant
@@ -55,17 +76,27 @@ AllSure held = (file : FileId) → (held file).rest ≡ []
 abbrev pub AreApart : List Item → List Item → Type 0
 AreApart others items = AllByRecursion (λ x. Contains others x → ⊥) items
 
+-- a result with its facts, as a logger is told them
+abbrev pub told_of : List Report → List Told
+told_of reports = map (λ (r : Report). (r.result, r.facts)) reports
+
 -- Over what recovery left an archive was opened, into which a logger has logged these items since, each with a stamp of its own; all that
--- stood before are acknowledged, and at least so many of them.
-pub record IsGoing (left : Files) (limit : ℕ) (events : List Event) (w : Written) (kept : Kept) (held : Holdings) : Type 0 where
+-- stood before are acknowledged, and at least so many of them. The last results may be held yet: the disk then holds what was written
+-- before them.
+pub record IsGoing (left : Files) (limit : ℕ) (events : List Event) (w : Written) (b : HeldBack) (held : Holdings) : Type 0 where
   pub label : LabelFields
   pub first : Written
   pub opens : OpensFound label left first.files first.contents
+  -- what is written, and how many of its items are acknowledged
+  pub written : Written
   pub acknowledged : ℕ
-  pub is : IsLogger (meant_of first w acknowledged) kept held
-  pub volume : kept.ends.volume ≡ w.volume
-  pub open_ : kept.closed ≡ false
-  pub limit_is : kept.limit ≡ limit
+  pub pending : List Report
+  -- how many will be once the others are written too
+  pub later : ℕ
+  pub is : IsHolding (meant_of first written acknowledged) b (told_of pending) (meant_of first w later) held
+  pub volume : b.planned.volume ≡ w.volume
+  pub open_ : b.kept.closed ≡ false
+  pub limit_is : b.kept.limit ≡ limit
   pub items_are : items_of w.contents.volumes ≡ items_of first.contents.volumes ++ items_by events
   pub apart : AreApart (items_of first.contents.volumes) (items_by events)
   pub enough : length (items_of first.contents.volumes) + acknowledged_by events ≤ acknowledged
@@ -82,10 +113,11 @@ pub record IsUntouched (left : Files) (events : List Event) (files : Files) (hel
 abbrev pub IsPlace : Files → ℕ → List Event → Stand → Place → Holdings → Type 0
 IsPlace left limit events (Stand.found files) (Found archive) held = IsLeft archive held × IsUntouched left events files held
 IsPlace left limit events (Stand.found files) Lost held = IsUntouched left events files held
-IsPlace left limit events (Stand.opened w) (Open kept) held = IsGoing left limit events w kept held
+IsPlace left limit events (Stand.opened w) (Open b) held = IsGoing left limit events w b held
 IsPlace left limit events stand place held = ⊥
 
--- Over what recovery left, these events led to the files that stand on the disk, with so many results logged.
+-- Over what recovery left, these events led to the files that stand on the disk once all is written that is held, with so many results
+-- logged.
 pub record Keeps (left : Files) (events : List Event) (s : Carried) (held : Holdings) : Type 0 where
   pub stand : Stand
   pub lead : LeadFrom s.label s.limit left events stand
@@ -111,7 +143,7 @@ abbrev pub IsLabelled : Carried → Type 0
 IsLabelled s = HasLabel s.place
 
 abbrev pub HasLogger : Place → Type 0
-HasLogger (Open kept) = Unit {0}
+HasLogger (Open b) = Unit {0}
 HasLogger place = ⊥
 
 -- a logger goes on with the archive
@@ -127,7 +159,7 @@ abbrev pub IsLost : Carried → Type 0
 IsLost s = HasLost s.place
 
 abbrev pub HasFailed : Place → Type 0
-HasFailed Failed = Unit {0}
+HasFailed (Failed lost) = Unit {0}
 HasFailed place = ⊥
 
 -- the disk failed

@@ -12,7 +12,7 @@ use Rattle.logging_session.specs.declared.place.Place.TheVariants.{Open}
 use Rattle.logging_session.specs.Answers.{ComesBackBy}
 use Rattle.logging_session.specs.ComingBack.{ComesBack, ComesBackTo, MayBeAfter, start_of}
 use Rattle.logging_session.specs.Events.{Event, LeadFrom, items_by}
-use Rattle.logging_session.specs.Keeping.{AreWhole, Carried, Keeps}
+use Rattle.logging_session.specs.Keeping.{AreWhole, Carried, Keeps, held_in}
 use Rattle.logging_session.specs.Written.{Stand, files_of}
 
 -- Whatever a crash leaves of what the disk then holds comes back, with all that is acknowledged.
@@ -22,7 +22,7 @@ KeptSessionsSurvive = (left : Files) (events : List Event) (s : Carried) (held :
 
 -- what is counted as acknowledged
 abbrev pub sure_in : Place → ℕ
-sure_in (Open kept) = kept.ends.acknowledged
+sure_in (Open b) = b.kept.ends.acknowledged
 sure_in place = 0
 
 -- It comes back with as many items as are counted so, those of the start among them.
@@ -30,9 +30,9 @@ abbrev pub KeptCountsSurvive : Type 0
 KeptCountsSurvive = (left files image : Files) (events : List Event) (s : Carried) (held : Holdings) (r : ArchiveReading) → Keeps left events s held → CrashImage held image → Reads files r → Recovers files r left
     → ComesBack (start_of files r left) (scan r ++ items_by events) (sure_in s.place) image
 
--- the files on the disk are those to which the events lead
+-- where nothing is held the files on the disk are those to which the events lead
 abbrev pub KeptFilesAreLed : Type 0
-KeptFilesAreLed = (left : Files) (events : List Event) (s : Carried) (held : Holdings) → Keeps left events s held
+KeptFilesAreLed = (left : Files) (events : List Event) (s : Carried) (held : Holdings) → Keeps left events s held → held_in s.place ≡ 0
     → (stand : Stand) × LeadFrom s.label s.limit left events stand × ((file : FileId) → contents_of held file ≡ files_of stand file)
 
 -- and recovery changes nothing of them, where it had left what it leaves alone

@@ -1,32 +1,60 @@
-//! How a logger makes sure what it logged.
-ghost use Rattle.std.specs.Prelude.{◌≡◌, ◌≢◌, ◌≤◌, false, IfErr, OnOk};
+//! How a batch writes what it holds, and makes sure what was logged.
+ghost use Rattle.std.specs.Prelude.{◌≡◌, ◌<◌, ◌≤◌, [], ℕ, List as Sequence, Ok, IfErr, OnOk};
+ghost use Rattle.pcp_outside.specs.Causes.{Rose};
 ghost use Rattle.pcp_outside.specs.Devices.{LeavesOnly};
 ghost use Rattle.logger_core.specs.Going.{IsVolumeSure};
-ghost use Rattle.logger_core.specs.Meant.{Meant, IsLogger, SurvivesOf};
-ghost use Rattle.logger_core.specs.Refusals.{FlushMayAnswer};
-ghost use Rattle.logger_core.specs.declared.fault.LogFault.TheVariants.{DiskFault};
-ghost use Rattle.logging_session.specs.Answers.{IsMadeSure};
+ghost use Rattle.logger_core.specs.Grouping.{Told, samples_of};
+ghost use Rattle.logger_core.specs.Held.{counts_of};
+ghost use Rattle.logger_core.specs.Holding.{IsHolding};
+ghost use Rattle.logger_core.specs.Meant.{Meant};
+ghost use Rattle.logger_core.specs.Runs.{SurvivesWith};
+ghost use Rattle.logging_session.specs.Answers.{IsMadeSure, IsWrittenOut};
 
-use logger_core::{LogFault, Logger};
+use logger_core::Batch;
 use pcp_outside::Disk;
 
-/// Makes all that a logger logged sure, and where that is wanted puts an entry behind the index where one is due.
-pub(crate) fn make_logger_sure<D: Disk>(
-    logger: &mut Logger,
-    disk: &mut D,
-    puts_entry: bool,
-) -> Result<(), LogFault>
-    ensures done { D.tells → (m : Meant) → IsLogger m logger.old (D.held disk.old) → OnOk result (IsMadeSure puts_entry m logger.old logger.new (D.held disk.new)) }
-    ensures open_ { OnOk result ((logger.new.limit ≡ logger.old.limit) × (logger.new.closed ≡ false)) }
-    ensures any_moment { D.tells → (m : Meant) → IsLogger m logger.old (D.held disk.old) → LeavesOnly D.moment D.left_since disk.old disk.new (SurvivesOf m) }
-    ensures sure { D.tells → OnOk result (IsVolumeSure logger.new.ends.volume (D.held disk.new)) }
-    ensures fault { IfErr result (λ e. FlushMayAnswer logger.old logger.new (D.faults disk.old) (D.faults disk.new) e) }
+/// Writes all that is held. Where the disk fails the error is how many of the results weren't written.
+pub(crate) fn write_held<D: Disk>(batch: &mut Batch, disk: &mut D) -> Result<(), u32>
+    requires open_ { batch.old.kept.closed ≡ false }
+    ensures done { D.tells → (m o : Meant) (pending : Sequence Told) → IsHolding m batch.old pending o (D.held disk.old) → OnOk result (IsWrittenOut m pending batch.old batch.new (D.held disk.new)) }
+    ensures open_ { OnOk result ((batch.new.kept.limit ≡ batch.old.kept.limit) × (batch.new.kept.closed ≡ false) × (batch.new.runs ≡ [])) }
+    ensures any_moment { D.tells → (m o : Meant) (pending : Sequence Told) → IsHolding m batch.old pending o (D.held disk.old) → LeavesOnly D.moment D.left_since disk.old disk.new (SurvivesWith m (samples_of pending)) }
+    ensures idle { batch.old.runs ≡ [] → (result ≡ Ok tt) × (batch.new ≡ batch.old) × (disk.new ≡ disk.old) }
+    ensures lost { IfErr result (λ lost. (0 < lost) × (lost ≤ counts_of batch.old.runs) × Rose (D.faults disk.old) (D.faults disk.new)) }
     ensures later { D.faults disk.old ≤ D.faults disk.new }
-    ensures untouched { IfErr result (λ e. e ≢ DiskFault → disk.new ≡ disk.old) }
     ensures quiet { OnOk result (D.faults disk.new ≡ D.faults disk.old) }
 {
-    if puts_entry {
-        return logger.flush(disk);
+    let held = batch.held();
+    match batch.write(disk) {
+        Ok(()) => Ok(()),
+        Err((written, _)) => Err(held - written),
     }
-    logger.sync(disk)
+}
+
+/// Writes all that is held, makes all that was logged sure, and where that is wanted puts an entry behind the index where one is due. Where the
+/// disk fails the error is how many of the results weren't written.
+pub(crate) fn make_batch_sure<D: Disk>(
+    batch: &mut Batch,
+    disk: &mut D,
+    puts_entry: bool,
+) -> Result<(), u32>
+    requires open_ { batch.old.kept.closed ≡ false }
+    ensures done { D.tells → (m o : Meant) (pending : Sequence Told) → IsHolding m batch.old pending o (D.held disk.old) → OnOk result (IsMadeSure puts_entry m pending batch.old batch.new (D.held disk.new)) }
+    ensures open_ { OnOk result ((batch.new.kept.limit ≡ batch.old.kept.limit) × (batch.new.kept.closed ≡ false) × (batch.new.runs ≡ [])) }
+    ensures any_moment { D.tells → (m o : Meant) (pending : Sequence Told) → IsHolding m batch.old pending o (D.held disk.old) → LeavesOnly D.moment D.left_since disk.old disk.new (SurvivesWith m (samples_of pending)) }
+    ensures sure { D.tells → OnOk result (IsVolumeSure batch.new.kept.ends.volume (D.held disk.new)) }
+    ensures lost { IfErr result (λ lost. (lost ≤ counts_of batch.old.runs) × Rose (D.faults disk.old) (D.faults disk.new)) }
+    ensures later { D.faults disk.old ≤ D.faults disk.new }
+    ensures quiet { OnOk result (D.faults disk.new ≡ D.faults disk.old) }
+{
+    write_held(batch, disk)?;
+    let made = if puts_entry {
+        batch.flush(disk)
+    } else {
+        batch.sync(disk)
+    };
+    match made {
+        Ok(()) => Ok(()),
+        Err(_) => Err(0),
+    }
 }
