@@ -1,5 +1,5 @@
 -- How a run ends whose result isn't logged, and what its flushes write.
-use Rattle.std.specs.Prelude.{◌≡◌, ◌⊎◌, ℕ, zero, suc, List, ◌++◌, codes, Option, Some, None}
+use Rattle.std.specs.Prelude.{◌≡◌, ◌⊎◌, ℕ, ◌-◌, zero, suc, List, ◌++◌, codes, length, slice_get, take, Option, Some, None}
 use Rattle.pcp_outside.specs.Causes.{Rose}
 use Rattle.logger_core.specs.declared.fault.LogFault.{LogFault}
 use Rattle.logger_core.specs.declared.fault.LogFault.TheVariants as faults
@@ -37,6 +37,15 @@ flushed_line output (suc n) = output ++ one_number (codes "flushed") (suc n)
 abbrev pub told_behind : Ending → List ℕ → ℕ → List ℕ
 told_behind ends.Done output logged = output ++ one_number (codes "logged") logged
 told_behind ending output logged = output
+
+-- What is written where the last results that were logged are lost, so many: the lines before the tick of the first of them. The marks are
+-- where the lines of the last ticks begin that logged a result.
+abbrev pub up_to_mark : Option ℕ → List ℕ → List ℕ
+up_to_mark None output = output
+up_to_mark (Some mark) output = take mark output
+
+abbrev pub before_lost : List ℕ → ℕ → List ℕ → List ℕ
+before_lost marks lost output = up_to_mark (slice_get marks (length marks - lost)) output
 
 -- at its end the disk may fail yet, and memory for what is told may be refused
 abbrev pub EndsAs : Ending → Ending → Type 0

@@ -1,7 +1,6 @@
 -- What a run keeps of its archive: a session under the run's label, and how the disk came to it.
-use Rattle.std.specs.Prelude.{◌≡◌, ◌⊎◌, List, [], ◌∷◌}
+use Rattle.std.specs.Prelude.{◌≡◌, ◌⊎◌, List, []}
 use Rattle.pcp_base.specs.declared.result.Item.{Item}
-use Rattle.pcp_base.specs.declared.result.Item.TheVariants.{Sample}
 use Rattle.pcp_model.specs.Disk.{Files}
 use Rattle.pcp_outside.specs.declared.disk.Disk.{Ghosts as DiskGhosts}
 use Rattle.fetch_answers.specs.declared.fetch.Fetched.{Fetched}
@@ -10,7 +9,7 @@ use Rattle.logging_session.specs.Events.{Event, opening}
 use Rattle.logging_session.specs.Keeping.{Carried}
 use Rattle.script_runs.specs.declared.ending.Ending.{Ending}
 use Rattle.script_runs.specs.declared.ending.Ending.TheVariants as ends
-use Rattle.script_runs.specs.Archives.{IsTaken, IsTurnedAway, run_label}
+use Rattle.script_runs.specs.Archives.{IsTurnedAway, run_label}
 
 -- over what recovery left, since that moment, with these events
 pub record KeepsRun {D : Type 0} (d : DiskGhosts D) (left : Files) (events : List Event) (start : D) (s : Carried) (disk : D) : Type 0 where
@@ -28,12 +27,11 @@ module _ {D : Type 0} (d : DiskGhosts D) (left : Files) (events : List Event) (s
     pub kept : KeepsRun d left (opening f.result.stamp events) start s disk
     pub away : IsTurnedAway s.limit left events f ending
 
-  -- What stands where a run ends since this wasn't logged: for want of memory the archive may have been opened for it; when the disk failed it
-  -- may have been on its way, if the archive takes it.
+  -- What stands where a run ends since this wasn't logged: for want of memory the archive may have been opened for it; when the disk failed
+  -- what was held may have been on its way.
   abbrev pub LeavesUnlogged : Ending → Type 0
   LeavesUnlogged ends.NoMemory = KeepsRun d left events start s disk ⊎ KeepsRun d left (opening f.result.stamp events) start s disk
-  LeavesUnlogged ends.DiskFault =
-      WentBy d run_label s.limit left events [] start disk ⊎ (WentBy d run_label s.limit left events (Sample f.result ∷ []) start disk × IsTaken s.limit left events f)
+  LeavesUnlogged ends.DiskFault = WentBy d run_label s.limit left events [] start disk
   LeavesUnlogged ending = TurnsItAway ending
 
 -- What stands of the archive where a run ended, with these events; where the disk failed, how it came there, and what was on its way.

@@ -3,7 +3,7 @@ ghost use Rattle.std.specs.Prelude.{◌≡◌, ◌≢◌, ◌⊎◌, ◌≤◌, 
 ghost use Rattle.pcp_model.specs.Disk.{Files as AllFiles};
 ghost use Rattle.logging_session.specs.Course.{WentBy};
 ghost use Rattle.logging_session.specs.Events.{Event, flushed_behind, items_by};
-ghost use Rattle.logging_session.specs.Keeping.{IsFailed, IsWorking};
+ghost use Rattle.logging_session.specs.Keeping.{IsFailed, IsWorking, held_in, lost_in};
 ghost use Rattle.script_runs.specs.Archives.{run_label};
 ghost use Rattle.script_runs.specs.declared.ending.Ending.TheVariants.{DiskFault as Failing, NoMemory as Refused};
 ghost use Rattle.run_archive.specs.Endings.{MayEnd, flushed_line};
@@ -22,6 +22,9 @@ pub fn flush_line<D: Disk>(
     requires working { IsWorking session.old }
     ensures same { (session.new.label ≡ session.old.label) × (session.new.limit ≡ session.old.limit) × (session.new.logged ≡ session.old.logged) }
     ensures working { OnOk result (IsWorking session.new) }
+    // Nothing is held any more; where the disk failed at most what was held is lost.
+    ensures none { OnOk result (held_in session.new.place ≡ 0) }
+    ensures lost { IfErr result (λ e. e ≡ Failing → lost_in session.new.place ≤ held_in session.old.place) }
     ensures unfailed { IfErr result (λ e. e ≢ Failing → IsFailed session.new → ⊥) }
     ensures flushes { OnOk result (OverAny D.Disk session.old disk.old (λ left events start. KeepsRun D.Disk left (flushed_behind (items_by events) events) start session.new disk.new)) }
     ensures written { OnOk result (out.new.items ≡ flushed_line out.old.items session.old.logged) }

@@ -4,7 +4,7 @@ ghost use Rattle.pcp_outside.specs.Causes.{Rose};
 ghost use Rattle.fetch_engine.specs.Servers.{IsSeated};
 ghost use Rattle.fetch_engine.specs.Visits.{AreLoaded};
 ghost use Rattle.script_runs.specs.declared.ending.Ending.TheVariants.{ClockEnd as NoMoment, ClockFault as NoClock, DiskFault as Failing};
-ghost use Rattle.logging_session.specs.Keeping.{IsFailed, IsWorking};
+ghost use Rattle.logging_session.specs.Keeping.{IsFailed, IsWorking, held_in, lost_in};
 ghost use Rattle.run_archive.specs.Samples.{SampleTaken};
 ghost use Rattle.run_archive.specs.Sampling.{GoesOn, HasEnded, MayRefuse, MayStop, StopsSampling, StopsAt, TakesAt};
 
@@ -54,6 +54,10 @@ pub fn sample_at<'a, D: Disk>(
     ensures loads { AreLoaded seat.old.tokens seat.new.tokens }
     ensures same { (sampler.new.session.label ≡ sampler.old.session.label) × (sampler.new.session.limit ≡ sampler.old.session.limit) }
     ensures count { sampler.new.session.logged ≤ sampler.old.session.logged + 1 }
+    // How many are held, or lost where the disk failed.
+    ensures held { OnOk result (held_in sampler.new.session.place ≤ held_in sampler.old.session.place + 1) }
+    ensures unheld { IfErr result (λ e. e ≢ Failing → held_in sampler.new.session.place ≤ held_in sampler.old.session.place) }
+    ensures lost { IfErr result (λ e. e ≡ Failing → lost_in sampler.new.session.place ≤ held_in sampler.old.session.place) }
     ensures goes { IfOk result (TakesAt D.Disk script.now.config.groups server.now sampler.old sampler.new seat.old.tokens seat.new.tokens disk.old disk.new now) }
     ensures stops { IfErr result (StopsAt D.Disk script.now.config.groups server.now sampler.old sampler.new seat.old.tokens seat.new.tokens disk.old disk.new now) }
     ensures working { OnOk result (IsWorking sampler.new.session) }
@@ -105,6 +109,8 @@ pub fn sample<'a, D: Disk, C: Clock, T: Turn>(
     ensures loads { AreLoaded seat.old.tokens seat.new.tokens }
     ensures same { (sampler.new.session.label ≡ sampler.old.session.label) × (sampler.new.session.limit ≡ sampler.old.session.limit) }
     ensures count { sampler.new.session.logged ≤ sampler.old.session.logged + 1 }
+    // Between samples nothing is held.
+    ensures held { held_in sampler.old.session.place ≡ 0 → OnOk result (held_in sampler.new.session.place ≡ 0) × IfErr result (λ e. e ≢ Failing → held_in sampler.new.session.place ≡ 0) }
     ensures goes { OnOk result ((s : SampleTaken) × GoesOn C.Clock D.Disk script.now.config.groups server.now sampler.old sampler.new seat.old.tokens seat.new.tokens clock.old clock.new disk.old disk.new (s ∷ [])) }
     ensures stops { IfErr result (StopsSampling C.Clock D.Disk script.now.config.groups server.now sampler.old sampler.new seat.old.tokens seat.new.tokens clock.old clock.new disk.old disk.new [] left) }
     ensures working { OnOk result (IsWorking sampler.new.session) }
@@ -145,6 +151,8 @@ pub fn sample_all<'a, D: Disk, C: Clock, T: Turn>(
     ensures loads { AreLoaded seat.old.tokens seat.new.tokens }
     ensures same { (sampler.new.session.label ≡ sampler.old.session.label) × (sampler.new.session.limit ≡ sampler.old.session.limit) }
     ensures count { sampler.new.session.logged ≤ count }
+    // Between samples nothing is held.
+    ensures held { held_in sampler.old.session.place ≡ 0 → OnOk result (held_in sampler.new.session.place ≡ 0) × IfErr result (λ e. e ≢ Failing → held_in sampler.new.session.place ≡ 0) }
     ensures goes { OnOk result ((taken : Sequence SampleTaken) × (length taken ≡ count) × GoesOn C.Clock D.Disk script.now.config.groups server.now sampler.old sampler.new seat.old.tokens seat.new.tokens clock.old clock.new disk.old disk.new taken) }
     ensures stops { IfErr result (λ e. (taken : Sequence SampleTaken) × (left : ℕ) × (length taken + left ≡ samples) × (length taken < count)
         × StopsSampling C.Clock D.Disk script.now.config.groups server.now sampler.old sampler.new seat.old.tokens seat.new.tokens clock.old clock.new disk.old disk.new taken left e) }

@@ -3,7 +3,7 @@ ghost use Rattle.std.specs.Prelude.{◌≡◌, ◌≤◌, [], IfErr, OnErr, OnOk
 ghost use Rattle.pcp_outside.specs.Causes.{Rose};
 ghost use Rattle.logging_session.specs.Course.{WentBy};
 ghost use Rattle.logging_session.specs.Events.{Event, behind};
-ghost use Rattle.logging_session.specs.Keeping.{IsWorking};
+ghost use Rattle.logging_session.specs.Keeping.{IsWorking, held_in};
 ghost use Rattle.script_runs.specs.Archives.{run_label};
 ghost use Rattle.script_runs.specs.declared.ending.Ending.TheVariants.{DiskFault as Failing};
 ghost use Rattle.run_archive.specs.Kept.{KeepsRun, OverAny};
@@ -18,6 +18,7 @@ pub(crate) fn make_sure<D: Disk>(disk: &mut D, session: &mut Session) -> Result<
     requires working { IsWorking session.old }
     ensures same { (session.new.label ≡ session.old.label) × (session.new.limit ≡ session.old.limit) × (session.new.logged ≡ session.old.logged) }
     ensures working { OnOk result (IsWorking session.new) }
+    ensures none { OnOk result (held_in session.new.place ≡ 0) }
     ensures syncs { OnOk result (OverAny D.Disk session.old disk.old (λ left events start. KeepsRun D.Disk left (behind events Event.synced) start session.new disk.new)) }
     ensures kinds { IfErr result (λ e. e ≡ Failing) }
     ensures failed { OnErr result (OverAny D.Disk session.old disk.old (λ left events start. WentBy D.Disk run_label session.old.limit left events [] start disk.new)) }

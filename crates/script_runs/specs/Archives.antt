@@ -10,7 +10,7 @@ use Rattle.fetch_answers.specs.declared.fetch.Fetched.{Fetched}
 use Rattle.logger_core.specs.declared.fault.LogFault.{LogFault}
 use Rattle.logger_core.specs.declared.fault.LogFault.TheVariants as faults
 use Rattle.logging_session.specs.Events.{Event, LeadFrom, opening}
-use Rattle.logging_session.specs.Written.{Refuses, Report, Stand, Takes, Written}
+use Rattle.logging_session.specs.Written.{Refuses, Report, Stand, Written}
 use Rattle.script_runs.specs.declared.ending.Ending.{Ending}
 use Rattle.script_runs.specs.declared.ending.Ending.TheVariants as ends
 use Rattle.script_runs.specs.declared.ending.LimitKind.TheVariants as kinds
@@ -51,9 +51,3 @@ pub record IsTurnedAway (limit : ℕ) (left : Files) (events : List Event) (f : 
   pub fault : LogFault
   pub refuses : Refuses limit (report_of f) w fault
   pub ends : ending_of fault ≡ Some ending
-
--- it takes it: the result is later than all that is there, can be described, and has place
-pub record IsTaken (limit : ℕ) (left : Files) (events : List Event) (f : Fetched) : Type 0 where
-  pub w : Written
-  pub lead : LeadFrom run_label limit left (opening f.result.stamp events) (Stand.opened w)
-  pub takes : Takes limit (report_of f) w

@@ -1,14 +1,14 @@
 -- The run of a script over files (pmlogger(1)): they are recovered, its lines are run one after another up to the first that ends the
 -- run, regions are closed, and where a result was logged a flush follows.
-use Rattle.std.specs.Prelude.{◌≡◌, ◌⊎◌, ℕ, ◌+◌, ◌<◌, ◌≤◌, Bool, true, false, List, [], ◌∷◌, ◌++◌, codes, length, take, slice_get, Some, None}
+use Rattle.std.specs.Prelude.{◌≡◌, ◌≢◌, ◌⊎◌, ℕ, ◌+◌, ◌<◌, ◌≤◌, Bool, true, false, List, [], ◌∷◌, ◌++◌, codes, length, take, slice_get, Some, None}
 use Rattle.std.specs.List.{list_all}
 use Rattle.pcp_base.specs.Time.{Moment}
 use Rattle.pcp_base.specs.declared.result.Item.{Item}
-use Rattle.pcp_base.specs.declared.result.Item.TheVariants.{Sample}
 use Rattle.pcp_model.specs.Disk.{Files}
 use Rattle.fetch_answers.specs.declared.fetch.Fetched.{Fetched}
 use Rattle.logging_session.specs.Course.{LeadsTo}
-use Rattle.logging_session.specs.Events.{Event, closing, items_by, opening}
+use Rattle.logging_session.specs.Events.{Event, LeadFrom, closing, items_by, logged_all, opening}
+use Rattle.logging_session.specs.Written.{Report, Stand}
 use Rattle.run_script.specs.declared.script.Line.{Line}
 use Rattle.run_script.specs.declared.script.Line.TheVariants.{Tick}
 use Rattle.run_script.specs.declared.script.Script.{Script}
@@ -17,7 +17,7 @@ use Rattle.script_runs.specs.declared.ending.Ending.TheVariants as ends
 use Rattle.script_runs.specs.declared.ending.LimitKind.TheVariants as kinds
 use Rattle.script_runs.specs.Regions.{Doing, ScriptRegion, made_regions}
 use Rattle.text_lines.specs.Spelling.{one_number}
-use Rattle.script_runs.specs.Archives.{IsRecovered, IsTaken, IsTurnedAway, run_label}
+use Rattle.script_runs.specs.Archives.{IsRecovered, IsTurnedAway, report_of, run_label}
 use Rattle.script_runs.specs.Closing.{closed_regions}
 use Rattle.script_runs.specs.Steps.{RunState, Fails, GoesOn, fetched_at, pmids_at}
 
@@ -80,7 +80,7 @@ EndsLine script s number line ends.DiskFault = Unit {0}
 EndsLine script s number line ending = ⊥
 
 -- What it did to the archive that recovery left: nothing more; or the archive was opened for what is shown. There it was turned away; or
--- memory was refused; or the disk failed later, or while the archive was taking it, which may leave it.
+-- memory was refused; or the disk failed later.
 abbrev pub DoesNothing : RunState → List Event → List Item → Type 0
 DoesNothing s events more = (events ≡ s.events) × (more ≡ [])
 
@@ -91,18 +91,13 @@ abbrev pub TurnsAway : Script → ℕ → Files → RunState → Line → Ending
 TurnsAway script limit left s line ending events more =
     (x : Shows script s line) × IsTurnedAway limit left s.events (shown x) ending × (events ≡ opening x.now s.events) × (more ≡ [])
 
-abbrev pub FailsTaking : Script → ℕ → Files → RunState → Line → List Event → List Item → Type 0
-FailsTaking script limit left s line events more =
-    (x : Shows script s line) × IsTaken limit left s.events (shown x) × (events ≡ s.events) × (more ≡ Sample (shown x).result ∷ [])
-
 abbrev pub LineDoes : Script → ℕ → Files → RunState → Line → Ending → List Event → List Item → Type 0
 LineDoes script limit left s line (ends.Limit kinds.Sets count) events more = DoesNothing s events more
 LineDoes script limit left s line (ends.Limit what count) events more = TurnsAway script limit left s line (ends.Limit what count) events more
 LineDoes script limit left s line (ends.NotLater last) events more = TurnsAway script limit left s line (ends.NotLater last) events more
 LineDoes script limit left s line (ends.Changed pmid) events more = TurnsAway script limit left s line (ends.Changed pmid) events more
 LineDoes script limit left s line ends.NoMemory events more = DoesNothing s events more ⊎ OpensFor script s line events more
-LineDoes script limit left s line ends.DiskFault events more =
-    DoesNothing s events more ⊎ (OpensFor script s line events more ⊎ FailsTaking script limit left s line events more)
+LineDoes script limit left s line ends.DiskFault events more = DoesNothing s events more ⊎ OpensFor script s line events more
 LineDoes script limit left s line ending events more = DoesNothing s events more
 
 -- Ends
@@ -135,6 +130,15 @@ abbrev pub with_end : Ending → RunState → List ℕ
 with_end ends.Done s = s.output ++ one_number (codes "logged") (length (items_by s.events))
 with_end ending s = s.output
 
+-- How far its lines were run on the regions. Results are judged at their ticks and written several at a time: so a disk that fails may end a
+-- run at an earlier tick than the last line that was run.
+pub record RanOn (script : Script) (ending : Ending) (count : ℕ) (last : RunState) : Type 0 where
+  pub lines : ℕ
+  pub state : RunState
+  pub ran : RanFirst script lines state
+  pub on : count ≤ lines
+  pub same : ending ≢ ends.DiskFault → (lines ≡ count) × (state ≡ last)
+
 -- What a run does, over any disk: its first lines were run, so many, and then it ended so, with these lines written and its regions closed.
 pub record RanTo (script : Script) (ending : Ending) (output : List ℕ) (regions : List ScriptRegion) : Type 0 where
   pub count : ℕ
@@ -142,19 +146,48 @@ pub record RanTo (script : Script) (ending : Ending) (output : List ℕ) (region
   pub ran : RanFirst script count last
   pub halts : Halts script count last ending
   pub output_is : output ≡ with_end ending last
-  pub closed : regions ≡ closed_regions last.regions
+  pub further : RanOn script ending count last
+  pub closed : regions ≡ closed_regions further.state.regions
+
+-- The disk failed
+
+-- behind these lines: nothing more was done, or the archive was opened for what the next one shows
+abbrev pub FailsBehind : Script → ℕ → RunState → List Event → Type 0
+FailsBehind script lines t events = (events ≡ t.events) ⊎ Next script lines (λ at line. (x : Shows script t line) × (events ≡ opening x.now t.events))
+
+-- These results were lost, which were logged and held. The run ended before the tick of the first of them, which the archive, where it wasn't
+-- open, was opened for; where none is lost, behind all its lines.
+abbrev pub BeginsLost : Script → ℕ → RunState → ℕ → RunState → List Event → List Report → Type 0
+BeginsLost script count s lines t events [] = (lines ≡ count) × (t ≡ s)
+BeginsLost script count s lines t events (r ∷ lost) = Next script count (λ at line. (x : Shows script s line) × (r ≡ report_of (shown x)) × (events ≡ opening x.now s.events))
+
+-- Of what its lines did these events were done, and the items of the others were on their way, which the archive takes: some first ones of
+-- them may stand.
+pub record Loses (script : Script) (limit : ℕ) (left : Files) (count : ℕ) (s : RunState) (lines : ℕ) (t : RunState) (events : List Event) (more : List Item) : Type 0 where
+  pub lost : List Report
+  pub all : List Event
+  pub did : FailsBehind script lines t all
+  pub is : all ≡ events ++ logged_all lost
+  pub more_is : more ≡ items_by (logged_all lost)
+  pub begins : BeginsLost script count s lines t events lost
+  pub leads : (stand : Stand) × LeadFrom run_label limit left all stand
 
 -- What such a run did to the archive that recovery left, event by event, and which items were on their way when the disk failed: the events
--- of its lines, and what the next line did. Where files are turned away nothing is.
-abbrev pub Does : Script → ℕ → Files → ℕ → RunState → Ending → List Event → List Item → Type 0
-Does script limit left count s (ends.Limit what number) events more = Next script count (λ at line. LineDoes script limit left s line (ends.Limit what number) events more)
-Does script limit left count s (ends.NotLater last) events more = Next script count (λ at line. LineDoes script limit left s line (ends.NotLater last) events more)
-Does script limit left count s (ends.Changed pmid) events more = Next script count (λ at line. LineDoes script limit left s line (ends.Changed pmid) events more)
-Does script limit left count s ends.NoMemory events more = DoesNothing s events more ⊎ Next script count (λ at line. LineDoes script limit left s line ends.NoMemory events more)
-Does script limit left count s ends.DiskFault events more = DoesNothing s events more ⊎ Next script count (λ at line. LineDoes script limit left s line ends.DiskFault events more)
-Does script limit left count s ends.Done events more = DoesNothing s events more
-Does script limit left count s (ends.Condition at) events more = DoesNothing s events more
-Does script limit left count s ending events more = ⊥
+-- of its lines, and what the next line did. Where files are turned away nothing is. It ended behind the first ones of the lines, and these were
+-- run on the regions.
+abbrev pub Does : Script → ℕ → Files → ℕ → RunState → ℕ → RunState → Ending → List Event → List Item → Type 0
+Does script limit left count s lines t (ends.Limit what number) events more = Next script count (λ at line. LineDoes script limit left s line (ends.Limit what number) events more)
+Does script limit left count s lines t (ends.NotLater last) events more = Next script count (λ at line. LineDoes script limit left s line (ends.NotLater last) events more)
+Does script limit left count s lines t (ends.Changed pmid) events more = Next script count (λ at line. LineDoes script limit left s line (ends.Changed pmid) events more)
+Does script limit left count s lines t ends.NoMemory events more = DoesNothing s events more ⊎ Next script count (λ at line. LineDoes script limit left s line ends.NoMemory events more)
+Does script limit left count s lines t ends.DiskFault events more = Loses script limit left count s lines t events more
+Does script limit left count s lines t ends.Done events more = DoesNothing s events more
+Does script limit left count s lines t (ends.Condition at) events more = DoesNothing s events more
+Does script limit left count s lines t ending events more = ⊥
+
+-- so it did in this run
+abbrev pub RunDoes : {script : Script} {ending : Ending} {output : List ℕ} {regions : List ScriptRegion} → ℕ → Files → RanTo script ending output regions → List Event → List Item → Type 0
+RunDoes {script} {ending} limit left ran events more = Does script limit left ran.count ran.last ran.further.lines ran.further.state ending events more
 
 -- A script runs over files that are recovered first: to this ending, with these lines written, this done to the archive, the regions closed
 -- so, and these files. At the end what was logged is flushed.
@@ -162,5 +195,5 @@ pub record RunsTo (script : Script) (limit : ℕ) (start : Files) (ending : Endi
   pub left : Files
   pub recovered : IsRecovered start left
   pub ran : RanTo script ending output regions
-  pub does : Does script limit left ran.count ran.last ending events []
+  pub does : RunDoes limit left ran events []
   pub files : LeadsTo run_label limit left (closing events) final
