@@ -12,7 +12,7 @@ use Rattle.script_runs.specs.declared.ending.Ending.{Ending}
 use Rattle.script_runs.specs.declared.ending.Ending.TheVariants as ends
 use Rattle.script_runs.specs.Archives.{IsRecovered}
 use Rattle.script_runs.specs.Regions.{ScriptRegion}
-use Rattle.script_runs.specs.Runs.{Does, RanTo, RunsTo}
+use Rattle.script_runs.specs.Runs.{RanTo, RunDoes, RunsTo}
 use Rattle.run_archive.specs.Crashes.{IsAllAfter}
 use Rattle.run_archive.specs.Outcomes.{WentOn, left_of}
 use Rattle.pm_words.specs.declared.refusal.Refusal.{Refusal}
@@ -43,7 +43,7 @@ pub record RunsSo (script : Script) (limit : ℕ) (start : Files) (ending : Endi
   pub left : Files
   pub recovered : IsRecovered start left
   pub ran : RanTo script ending output regions
-  pub does : Does script limit left ran.count ran.last ending events more
+  pub does : RunDoes limit left ran events more
 
 -- a script runs over files to an ending, with these lines written, this done to the archive, and these files
 pub record Leads (script : Script) (limit : ℕ) (start : Files) (ending : Ending) (output : List ℕ) (events : List Event) (final : Files) : Type 0 where
@@ -137,7 +137,7 @@ abbrev pub ScriptSince : {D : Type 0} → DiskGhosts D → Runner → List ℕ �
 ScriptSince g c input old new =
     OfScript c input (λ script.
     (ending : Ending) × (output : List ℕ) × (regions : List ScriptRegion) × (ran : RanTo script ending output regions) × (events : List Event) × (more : List Item) × (w : WentOn g c.limit events more old new ending)
-    × Does script c.limit (left_of g c.limit events more old new w) ran.count ran.last ending events more)
+    × RunDoes c.limit (left_of g c.limit events more old new w) ran events more)
 
 abbrev pub runs_script : Runner → Meaning
 runs_script c = record {

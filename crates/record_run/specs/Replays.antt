@@ -15,7 +15,7 @@ use Rattle.run_passes.specs.Seen.{HaveSeen}
 use Rattle.script_runs.specs.declared.ending.Ending.{Ending}
 use Rattle.script_runs.specs.declared.ending.Ending.TheVariants as ends
 use Rattle.script_runs.specs.Regions.{ScriptRegion}
-use Rattle.script_runs.specs.Runs.{Does, RanTo, are_idle, line_behind}
+use Rattle.script_runs.specs.Runs.{RanTo, RunDoes, are_idle, line_behind}
 use Rattle.script_runs.specs.Steps.{RunState}
 use Rattle.run_archive.specs.declared.replayed.Replayed.{Replayed}
 use Rattle.run_archive.specs.Kept.{KeepsRun}
@@ -42,22 +42,22 @@ pub record IsBegun {D : Type 0} (d : DiskGhosts D) (old new : D) (s : Carried) :
   pub keeps : KeepsRun d (contents_of (d.held new)) [] new s new
 
 -- From that moment on these events were done to its archive, those of the lines, and so it ended.
-pub record EndsFrom {D : Type 0} (d : DiskGhosts D) (script : Script) (limit : ℕ) (left : Files) (start new : D) (count : ℕ) (last : RunState) (ending : Ending) : Type 0 where
+pub record EndsFrom {D : Type 0} (d : DiskGhosts D) (limit : ℕ) (left : Files) (start new : D) {script : Script} {ending : Ending} {output : List ℕ} {regions : List ScriptRegion} (ran : RanTo script ending output regions) : Type 0 where
   pub events : List Event
   pub more : List Item
-  pub did : Does script limit left count last ending events more
+  pub did : RunDoes limit left ran events more
   pub finished : HasFinished d limit left events more start new ending
 
 pub record ReplaysOver {D : Type 0} (d : DiskGhosts D) (script : Script) (server : List Mounted) (seat : List Token) (s : Carried) (start new : D) (r : Replayed) : Type 0 where
   pub run : HasReplayed script server seat r
-  pub told : d.tells → (left : Files) → KeepsRun d left [] start s start → EndsFrom d script s.limit left start new run.ran.count run.ran.last r.ending
+  pub told : d.tells → (left : Files) → KeepsRun d left [] start s start → EndsFrom d s.limit left start new run.ran
 
 -- Over a disk that tells, these events were done to its archive, those of the lines.
-pub record ReplaysFiles {D : Type 0} (d : DiskGhosts D) (script : Script) (limit : ℕ) (old new : D) (count : ℕ) (last : RunState) (ending : Ending) : Type 0 where
+pub record ReplaysFiles {D : Type 0} (d : DiskGhosts D) (limit : ℕ) (old new : D) {script : Script} {ending : Ending} {output : List ℕ} {regions : List ScriptRegion} (ran : RanTo script ending output regions) : Type 0 where
   pub events : List Event
   pub more : List Item
-  pub on : RunsOnFiles d limit events more old new ending (count ≡ 0) (λ left. Does script limit left count last ending events more)
+  pub on : RunsOnFiles d limit events more old new ending (ran.further.lines ≡ 0) (λ left. RunDoes limit left ran events more)
 
 pub record IsReplay {D : Type 0} (d : DiskGhosts D) (script : Script) (limit : ℕ) (server : List Mounted) (seat : List Token) (old new : D) (r : Replayed) : Type 0 where
   pub run : HasReplayed script server seat r
-  pub told : d.tells → ReplaysFiles d script limit old new run.ran.count run.ran.last r.ending
+  pub told : d.tells → ReplaysFiles d limit old new run.ran

@@ -1,19 +1,39 @@
 -- Where a run stands between its lines, against the run as a fold: over any disk its passes, its groups and what is written; and over a
 -- disk that tells, its archive.
-use Rattle.std.specs.Prelude.{◌≡◌, ℕ, List, [], length}
+use Rattle.std.specs.Prelude.{◌≡◌, ℕ, ◌<◌, List, [], ◌∷◌, ◌++◌, length}
 use Rattle.pcp_model.specs.Disk.{Files}
 use Rattle.pcp_outside.specs.declared.disk.Disk.{Ghosts as DiskGhosts}
 use Rattle.region_rule.specs.Seats.{Token}
 use Rattle.fetch_engine.specs.declared.server.Mounted.{Mounted}
-use Rattle.logging_session.specs.Events.{items_by}
+use Rattle.logging_session.specs.Events.{items_by, logged_all, opening}
+use Rattle.logging_session.specs.Written.{Report}
 use Rattle.run_script.specs.declared.script.Line.{Line}
 use Rattle.run_script.specs.declared.script.Script.{Script}
 use Rattle.run_passes.specs.Crews.{Follows}
 use Rattle.script_runs.specs.declared.ending.Ending.{Ending}
-use Rattle.script_runs.specs.Runs.{Does, EndsLine, Halts, LineDoes, RanFirst}
+use Rattle.script_runs.specs.Archives.{report_of}
+use Rattle.script_runs.specs.Runs.{Does, EndsLine, Halts, LineDoes, Next, RanFirst, Shows, shown}
 use Rattle.script_runs.specs.Steps.{GoesOn, RunState}
 use Rattle.run_archive.specs.Kept.{HasDone, KeepsRun}
 use Rattle.record_run.specs.declared.run.Run.{Run}
+
+-- Behind so many lines, in this state: a mark stands where the line of a tick begins which logged this result, and behind which these were
+-- logged, and nothing was flushed.
+pub record IsMarked (script : Script) (lines : ℕ) (t : RunState) (mark : ℕ) (r : Report) (more : List Report) : Type 0 where
+  pub count : ℕ
+  pub state : RunState
+  pub ran : RanFirst script count state
+  pub on : count < lines
+  pub next : Next script count (λ at line. (x : Shows script state line) × (r ≡ report_of (shown x)) × (t.events ≡ opening x.now state.events ++ logged_all (r ∷ more)))
+  pub mark_is : mark ≡ length state.output
+  pub rest : List ℕ
+  pub output : t.output ≡ state.output ++ rest
+
+-- marks of results, the last ones that were logged
+abbrev pub AreMarked : Script → ℕ → RunState → List ℕ → List Report → Type 0
+AreMarked script lines t [] reports = reports ≡ []
+AreMarked script lines t (mark ∷ marks) [] = ⊥
+AreMarked script lines t (mark ∷ marks) (r ∷ reports) = IsMarked script lines t mark r reports × AreMarked script lines t marks reports
 
 -- the passes stand where the fold does, and so much is written and logged
 pub record Follow (script : Script) (server : List Mounted) (run : Run) (seat : List Token) (s : RunState) : Type 0 where
@@ -25,6 +45,11 @@ pub record Follow (script : Script) (server : List Mounted) (run : Run) (seat : 
 pub record Stands (script : Script) (server : List Mounted) (run : Run) (seat : List Token) (s : RunState) : Type 0 where
   pub follow : Follow script server run seat s
   pub plans : run.sampler.plans ≡ s.plans
+
+-- The marks are those of the last ticks that logged a result, of those whose results are held at least.
+pub record Marks (script : Script) (run : Run) (lines : ℕ) (s : RunState) : Type 0 where
+  pub reports : List Report
+  pub are : AreMarked script lines s run.marks.items reports
 
 module _ {D : Type 0} (d : DiskGhosts D) (script : Script) (server : List Mounted) (s : RunState) (was is : Run) (seat : List Token) (old new : D) where
   -- A line was run, to this state.
@@ -49,5 +74,6 @@ module _ {D : Type 0} (d : DiskGhosts D) (script : Script) (server : List Mounte
     pub ran : RanFirst script count last
     pub halts : Halts script count last ending
     pub stands : Follow script server is seat last
+    pub marks : Marks script is count last
     pub told : d.tells → (left : Files) (start : D) → KeepsRun d left [] start was.sampler.session old
-        → HasDone d left start is.sampler.session new ending (Does script was.sampler.session.limit left count last ending)
+        → HasDone d left start is.sampler.session new ending (Does script was.sampler.session.limit left count last count last ending)

@@ -3,7 +3,6 @@
 use Rattle.std.specs.Prelude.{◌≡◌, ◌⊎◌, ℕ, ◌<◌, ◌≤◌, List, [], ◌∷◌, ◌++◌, length}
 use Rattle.pcp_base.specs.Time.{Moment}
 use Rattle.pcp_base.specs.declared.result.Item.{Item}
-use Rattle.pcp_base.specs.declared.result.Item.TheVariants.{Sample}
 use Rattle.pcp_model.specs.Disk.{Files}
 use Rattle.region_rule.specs.Seats.{Token}
 use Rattle.fetch_answers.specs.declared.fetch.Fetched.{Fetched}
@@ -15,7 +14,7 @@ use Rattle.run_script.specs.declared.script.Script.{Script}
 use Rattle.script_runs.specs.declared.ending.Ending.{Ending}
 use Rattle.script_runs.specs.declared.ending.Ending.TheVariants as ends
 use Rattle.script_runs.specs.declared.ending.LimitKind.TheVariants as kinds
-use Rattle.script_runs.specs.Archives.{IsTaken, IsTurnedAway, report_of}
+use Rattle.script_runs.specs.Archives.{IsTurnedAway, report_of}
 use Rattle.script_runs.specs.Steps.{fetched_from}
 use Rattle.run_archive.specs.Samples.{SampleTaken}
 use Rattle.run_archive.specs.Shown.{events_of, pmids_by}
@@ -68,12 +67,7 @@ module _ {script : Script} {server : List Mounted} {first final : List Token} {e
   TurnsLastAway limit left reason events more =
       (x : ShowsLast) × IsTurnedAway limit left (events_of results) (shown_last x) reason × (events ≡ opening x.sample.stamp (events_of results)) × (more ≡ [])
 
-  -- the disk failed while it was taking that
-  abbrev pub FailsTakingLast : ℕ → Files → List Event → List Item → Type 0
-  FailsTakingLast limit left events more =
-      (x : ShowsLast) × IsTaken limit left (events_of results) (shown_last x) × (events ≡ events_of results) × (more ≡ Sample (shown_last x).result ∷ [])
-
-  -- the disk failed as the last one, which was logged, was to be made sure
+  -- the disk failed as the last one, which was logged, was to be written or made sure
   abbrev pub LeavesLastUnsure : List Event → List Item → Type 0
   LeavesLastUnsure events more =
       (before : List Fetched) × (last : Fetched) × (results ≡ before ++ last ∷ []) × (events ≡ with_report (events_of before) (report_of last)) × (more ≡ [])
@@ -85,7 +79,7 @@ module _ {script : Script} {server : List Mounted} {first final : List Token} {e
   LoggingDid limit left (ends.NotLater last) events more = TurnsLastAway limit left (ends.NotLater last) events more
   LoggingDid limit left (ends.Changed pmid) events more = TurnsLastAway limit left (ends.Changed pmid) events more
   LoggingDid limit left ends.NoMemory events more = LogsResults events more ⊎ OpensForLast events more
-  LoggingDid limit left ends.DiskFault events more = LogsResults events more ⊎ (OpensForLast events more ⊎ (FailsTakingLast limit left events more ⊎ LeavesLastUnsure events more))
+  LoggingDid limit left ends.DiskFault events more = LogsResults events more ⊎ (OpensForLast events more ⊎ LeavesLastUnsure events more)
   LoggingDid limit left (ends.Condition line) events more = ⊥
   LoggingDid limit left (ends.NotArchive file at) events more = ⊥
   LoggingDid limit left (ends.Compressed file) events more = ⊥

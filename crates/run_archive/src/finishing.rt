@@ -1,14 +1,14 @@
 //! The end of a run, whatever ends it: what was logged is flushed unless the disk failed, and told.
-ghost use Rattle.std.specs.Prelude.{◌≡◌, ◌≢◌, ◌⊎◌, ◌≤◌, ◌++◌, [], ℕ, codes};
+ghost use Rattle.std.specs.Prelude.{◌≡◌, ◌≢◌, ◌⊎◌, ◌≤◌, ◌-◌, ◌++◌, [], ℕ, codes, length};
 ghost use Rattle.pcp_model.specs.Disk.{IsSettled, contents_of};
 ghost use Rattle.pcp_outside.specs.Causes.{Rose};
 ghost use Rattle.logging_session.specs.Course.{WentBy};
 ghost use Rattle.logging_session.specs.Events.{closing};
-ghost use Rattle.logging_session.specs.Keeping.{AreWhole, Carried, IsFailed};
+ghost use Rattle.logging_session.specs.Keeping.{AreWhole, Carried, IsFailed, held_in};
 ghost use Rattle.script_runs.specs.Archives.{run_label};
 ghost use Rattle.script_runs.specs.declared.ending.Ending.TheVariants.{Done as AtEnd, DiskFault as Failing, NoMemory as Refused};
 ghost use Rattle.text_lines.specs.Spelling.{one_number};
-ghost use Rattle.run_archive.specs.Endings.{EndsAs, MayEnd, told_behind};
+ghost use Rattle.run_archive.specs.Endings.{EndsAs, MayEnd, before_lost, told_behind};
 ghost use Rattle.run_archive.specs.Kept.{KeepsRun, OverAny};
 
 use crate::replayed::Replayed;
@@ -62,24 +62,46 @@ fn tell(out: &mut Vec<u8>, ending: Ending, logged: u64) -> Ending
     }
 }
 
-/// Ends a run: what was logged is flushed unless the disk failed, and where the run came to its end it tells how many results it logged.
-pub fn finish<D: Disk>(disk: &mut D, session: Session, out: Vec<u8>, ending: Ending) -> Replayed
+/// Takes away the lines from that of the first lost result on, where the last ones are lost, so many.
+fn cut_lines(out: &mut Vec<u8>, marks: &[usize], lost: usize)
+    requires within { lost ≤ length marks.now }
+    ensures { out.new.items ≡ before_lost marks.now lost out.old.items }
+{
+    if let Some(mark) = marks.get(marks.len() - lost) {
+        out.truncate(*mark);
+    }
+}
+
+/// Ends a run: what was logged is flushed unless the disk failed, and where the run came to its end it tells how many results it logged. The
+/// marks are where the lines of the last ticks begin that logged a result, those of all that are held among them: where the disk failed before
+/// some were written the run ended at the tick of the first of them, and its lines are those before it.
+pub fn finish<D: Disk>(
+    disk: &mut D,
+    session: Session,
+    out: Vec<u8>,
+    marks: &[usize],
+    ending: Ending,
+) -> Replayed
     requires unfailed { ending ≢ Failing → IsFailed session → ⊥ }
+    requires marked { held_in session.place ≤ length marks.now }
     ensures flushed { result.ending ≢ Failing → OverAny D.Disk session disk.old (λ left events start. (now : Carried) × KeepsRun D.Disk left (closing events) start now disk.new × (now.limit ≡ session.limit) × IsSettled (D.held disk.new) × (AreWhole left → AreWhole (contents_of (D.held disk.new)))) }
     // Where the disk fails now what was acknowledged before stays so.
     ensures fails { ending ≢ Failing → result.ending ≡ Failing → OverAny D.Disk session disk.old (λ left events start. WentBy D.Disk run_label session.limit left events [] start disk.new) }
     ensures failed { ending ≡ Failing → (result.ending ≡ Failing) × (disk.new ≡ disk.old) }
     ensures ends { EndsAs ending result.ending }
-    ensures count { result.logged ≡ session.logged }
-    ensures output { result.output ≡ told_behind result.ending out.items session.logged }
+    // Results may be lost where the disk failed: they aren't counted, and their lines aren't written.
+    ensures told { (lost : ℕ) × (lost ≤ length marks.now) × (lost ≤ session.logged) × (result.ending ≢ Failing → lost ≡ 0) × (result.logged ≡ session.logged - lost)
+        × (result.output ≡ told_behind result.ending (before_lost marks.now lost out.items) (session.logged - lost)) }
     ensures cause { (before : ℕ) → before ≤ D.faults disk.old → MayEnd before (D.faults disk.old) ending → MayEnd before (D.faults disk.new) result.ending }
     ensures rose { result.ending ≡ Failing → (ending ≡ Failing) ⊎ Rose (D.faults disk.old) (D.faults disk.new) }
     ensures later { D.faults disk.old ≤ D.faults disk.new }
     ensures quiet { result.ending ≢ Failing → D.faults disk.new ≡ D.faults disk.old }
 {
     let (mut session, mut out) = (session, out);
-    let logged = session.logged();
     let ending = flush_last(disk, &mut session, ending);
+    let lost = marks.len().min(session.lost() as usize);
+    let logged = session.logged() - lost as u64;
+    cut_lines(&mut out, marks, lost);
     let ending = tell(&mut out, ending, logged);
     Replayed {
         output: List::from_vec(out),
