@@ -4,6 +4,7 @@ use crate::files::{Held, bytes_in, snapshot};
 use crate::numbers::{file_of, split_file};
 use case_book::{Answer, Kept, Line};
 use pcp_base::{FileId, NoMemory};
+use pcp_outside::MemDisk;
 use std::alloc::Global;
 
 // The bytes that a file is to hold by a line `files FORM`.
@@ -70,6 +71,15 @@ fn compare_calls(
     answer.compare(wanted.as_bytes(), came.as_bytes())
 }
 
+// How often Meta was synced and the volumes of two digits were appended to, together.
+fn grouped_calls(disk: &MemDisk) -> u64 {
+    let mut total = disk.calls(FileId::Meta).1;
+    for number in 0..100 {
+        total = total.saturating_add(disk.calls(FileId::Volume(number)).0);
+    }
+    total
+}
+
 impl Drive {
     // `file FILE LITERAL` or `file FILE length N`
     fn look_at_file(
@@ -101,6 +111,24 @@ impl Drive {
         compare_calls(alloc, answer, wanted, self.disk.calls(file))
     }
 
+    // `fewer N`: Meta was synced and volumes were appended to, together, fewer than N times.
+    fn look_at_groups(
+        &self,
+        alloc: Global,
+        answer: &mut Answer,
+        rest: &str,
+    ) -> Result<bool, NoMemory> {
+        let Ok(most) = rest.parse::<u64>() else {
+            return Ok(false);
+        };
+        let came = grouped_calls(&self.disk);
+        if came < most {
+            return Ok(true);
+        }
+        let told = format!(in alloc; "{came}")?;
+        answer.compare(b"fewer", told.as_bytes())
+    }
+
     // `files empty` or `files same`: all hold nothing, or what they held before the last run.
     fn look_at_files(
         &mut self,
@@ -112,8 +140,8 @@ impl Drive {
         look_at_all(answer, &self.files, &now, form)
     }
 
-    /// What the files hold, `calls FILE APPENDS SYNCS` that were asked of the disk, and `taken N` volume bytes that
-    /// were read.
+    /// What the files hold, `calls FILE APPENDS SYNCS` that were asked of the disk, `fewer N` for those of groups, and
+    /// `taken N` volume bytes that were read.
     pub fn look(
         &mut self,
         alloc: Global,
@@ -125,6 +153,7 @@ impl Drive {
             "file" => self.look_at_file(alloc, kept, answer, line.rest),
             "files" => self.look_at_files(alloc, answer, line.rest),
             "calls" => self.look_at_calls(alloc, answer, line.rest),
+            "fewer" => self.look_at_groups(alloc, answer, line.rest),
             _ => compare_number(alloc, answer, line.rest, self.disk.taken()),
         }
     }

@@ -56,7 +56,9 @@ impl Subject for Scene {
                 outside.drive.prepare(alloc, kept, line)
             }
             "run" => case_commands::run(alloc, outside, answer, rest),
-            "file" | "files" | "calls" | "taken" => outside.drive.look(alloc, kept, answer, line),
+            "file" | "files" | "calls" | "fewer" | "taken" => {
+                outside.drive.look(alloc, kept, answer, line)
+            }
             "stream" => outside.call_stream(alloc, answer, rest),
             "disk" => outside.drive.call(alloc, kept, answer, rest),
             "crash" | "cuts" => case_commands::crash(alloc, &mut outside.drive, kept, answer, line),
