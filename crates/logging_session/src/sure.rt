@@ -5,10 +5,10 @@ ghost use Rattle.pcp_outside.specs.Devices.{LeavesOnly};
 ghost use Rattle.logger_core.specs.Going.{IsVolumeSure};
 ghost use Rattle.logger_core.specs.Grouping.{Told, samples_of};
 ghost use Rattle.logger_core.specs.Held.{counts_of};
-ghost use Rattle.logger_core.specs.Holding.{IsHolding};
+ghost use Rattle.logger_core.specs.Holding.{IsHolding, written_back};
 ghost use Rattle.logger_core.specs.Meant.{Meant};
 ghost use Rattle.logger_core.specs.Runs.{SurvivesWith};
-ghost use Rattle.logging_session.specs.Answers.{IsMadeSure, IsWrittenOut};
+ghost use Rattle.logging_session.specs.Answers.{IsMadeSure};
 
 use logger_core::Batch;
 use pcp_outside::Disk;
@@ -16,7 +16,7 @@ use pcp_outside::Disk;
 /// Writes all that is held. Where the disk fails the error is how many of the results weren't written.
 pub(crate) fn write_held<D: Disk>(batch: &mut Batch, disk: &mut D) -> Result<(), u32>
     requires open_ { batch.old.kept.closed ≡ false }
-    ensures done { D.tells → (m o : Meant) (pending : Sequence Told) → IsHolding m batch.old pending o (D.held disk.old) → OnOk result (IsWrittenOut m pending batch.old batch.new (D.held disk.new)) }
+    ensures done { D.tells → (m o : Meant) (pending : Sequence Told) → IsHolding m batch.old pending o (D.held disk.old) → OnOk result (IsHolding o batch.new [] o (D.held disk.new)) }
     ensures open_ { OnOk result ((batch.new.kept.limit ≡ batch.old.kept.limit) × (batch.new.kept.closed ≡ false) × (batch.new.runs ≡ [])) }
     ensures any_moment { D.tells → (m o : Meant) (pending : Sequence Told) → IsHolding m batch.old pending o (D.held disk.old) → LeavesOnly D.moment D.left_since disk.old disk.new (SurvivesWith m (samples_of pending)) }
     ensures idle { batch.old.runs ≡ [] → (result ≡ Ok tt) × (batch.new ≡ batch.old) × (disk.new ≡ disk.old) }
@@ -39,8 +39,8 @@ pub(crate) fn make_batch_sure<D: Disk>(
     puts_entry: bool,
 ) -> Result<(), u32>
     requires open_ { batch.old.kept.closed ≡ false }
-    ensures done { D.tells → (m o : Meant) (pending : Sequence Told) → IsHolding m batch.old pending o (D.held disk.old) → OnOk result (IsMadeSure puts_entry m pending batch.old batch.new (D.held disk.new)) }
-    ensures open_ { OnOk result ((batch.new.kept.limit ≡ batch.old.kept.limit) × (batch.new.kept.closed ≡ false) × (batch.new.runs ≡ [])) }
+    ensures done { D.tells → (m o : Meant) (pending : Sequence Told) → IsHolding m batch.old pending o (D.held disk.old) → OnOk result (IsMadeSure puts_entry o (written_back batch.old).kept batch.new.kept (D.held disk.new)) }
+    ensures open_ { OnOk result ((batch.new.kept.limit ≡ batch.old.kept.limit) × (batch.new.kept.closed ≡ false) × (batch.new.runs ≡ []) × (batch.new.planned ≡ batch.new.kept.ends)) }
     ensures any_moment { D.tells → (m o : Meant) (pending : Sequence Told) → IsHolding m batch.old pending o (D.held disk.old) → LeavesOnly D.moment D.left_since disk.old disk.new (SurvivesWith m (samples_of pending)) }
     ensures sure { D.tells → OnOk result (IsVolumeSure batch.new.kept.ends.volume (D.held disk.new)) }
     ensures lost { IfErr result (λ lost. (lost ≤ counts_of batch.old.runs) × Rose (D.faults disk.old) (D.faults disk.new)) }
