@@ -1,26 +1,23 @@
 -- A logger that holds results to be written together, and what its archive will be once they are.
-use Rattle.std.specs.Prelude.{◌≡◌, ◌⊎◌, ℕ, ◌+◌, ◌<◌, ◌≤◌, Bool, true, false, if◌then◌else◌, List, [], ◌∷◌, ◌++◌, length, take}
+use Rattle.std.specs.Prelude.{◌≡◌, ◌⊎◌, ℕ, ◌+◌, ◌<◌, ◌≤◌, true, false, List, [], ◌∷◌, ◌++◌, length, take}
 use Rattle.pcp_base.specs.declared.file.FileId.{FileId}
 use Rattle.pcp_base.specs.declared.result.PmResult.{PmResult}
 use Rattle.pcp_model.specs.Disk.{Files, Holdings}
-use Rattle.pcp_model.specs.LabelFields.{LabelFields}
 use Rattle.pcp_model.specs.Payload.{payload_length}
 use Rattle.archive_meta.specs.declared.facts.Facts.{Facts}
 use Rattle.pcp_outside.specs.Causes.{Rose}
 use Rattle.logger_core.specs.declared.ends.Ends.{Ends}
 use Rattle.logger_core.specs.declared.fault.LogFault.{LogFault}
 use Rattle.logger_core.specs.declared.fault.LogFault.TheVariants.{Closed, DiskFault}
+use Rattle.logger_core.specs.declared.groups.Group.{Group}
 use Rattle.logger_core.specs.declared.groups.Run.{Run}
 use Rattle.logger_core.specs.Going.{AreSmall}
 use Rattle.logger_core.specs.Grouping.{Told, LogsOne, LogsAll, AreAllEnough, AreWritten, BeginsRun, samples_of}
-use Rattle.logger_core.specs.Held.{AreRuns, AreRunsBounded, after_run, counts_of}
+use Rattle.logger_core.specs.Held.{AreRuns, AreRunsBounded, IsHeldMore, after_runs, counts_of, items_length, runs_acknowledged, runs_files}
 use Rattle.logger_core.specs.Keeps.{is_sure}
 use Rattle.logger_core.specs.Logging.{IsRefused}
-use Rattle.logger_core.specs.LogSteps.{with_next, with_run}
 use Rattle.logger_core.specs.Meant.{Meant, Kept, AreEnds, IsAt, IsLogger, Stands, items_in}
-use Rattle.logger_core.specs.Planning.{due_at, ready_ends}
 use Rattle.logger_core.specs.Refusals.{closed_copy}
-use Rattle.logger_core.specs.Steps.{with_entry}
 
 -- What such a logger is seen as: the logger, which knows the metadata of what is held, the runs that are held, and where the files
 -- end once these are written.
@@ -28,16 +25,6 @@ pub record HeldBack : Type 0 where
   pub kept : Kept
   pub runs : List Run
   pub planned : Ends
-
--- where the files end once all of these runs are written
-abbrev pub after_runs : Ends → List Run → Ends
-after_runs e [] = e
-after_runs e (run ∷ runs) = after_runs (after_run e run) runs
-
--- how many bytes the records of the held results take
-abbrev pub items_length : List Run → ℕ
-items_length [] = 0
-items_length (run ∷ runs) = length run.items + items_length runs
 
 -- None is held, or fewer than 64 are, and their records with this one's take at most 4,194,304 bytes.
 abbrev pub HasRoomBeside : List Run → PmResult → Type 0
@@ -52,24 +39,6 @@ pub record IsBatch (kept : Kept) (runs : List Run) (planned : Ends) : Type 0 whe
   pub some : counts_of runs ≡ 0 → runs ≡ []
 
 -- ---- what the archive will be
-
--- the files before a run: a switch, where the next volume is opened for it
-abbrev pub ready_files : LabelFields → Bool → Ends → Files → Files
-ready_files l crossing e files = if crossing then with_next l (e.volume + 1) e.greatest (with_entry (due_at e) files) else files
-
--- the files behind a run
-abbrev pub run_files : LabelFields → Ends → Run → Files → Files
-run_files l e run files = with_run (ready_ends run.crossing e).volume run.records run.items (ready_files l run.crossing e files)
-
--- the files behind runs
-abbrev pub runs_files : LabelFields → Ends → List Run → Files → Files
-runs_files l e [] files = files
-runs_files l e (run ∷ runs) files = runs_files l (after_run e run) runs (run_files l e run files)
-
--- how many items are acknowledged behind runs: a switch acknowledges all that stood before it
-abbrev pub runs_acknowledged : List Run → ℕ → ℕ → ℕ
-runs_acknowledged [] items acknowledged = acknowledged
-runs_acknowledged (run ∷ runs) items acknowledged = runs_acknowledged runs (items + run.count) (if run.crossing then items else acknowledged)
 
 -- a disk on which every byte of these files is sure
 abbrev pub all_sure : Files → Holdings
@@ -94,6 +63,24 @@ pub record IsHolding (m : Meant) (b : HeldBack) (pending : List Told) (o : Meant
   pub stands : Stands o b.planned.volume (all_sure o.files)
   pub ends : AreEnds o b.planned
 
+-- ---- steps
+
+-- a logger judged one result where the files will end: its metadata know of it then
+pub record IsHeldBy (old now : Kept) (before after : Group) (answer : PmResult) (facts : Facts) : Type 0 where
+  pub open_ : old.closed ≡ false
+  pub more : IsHeldMore old.records before old.limit answer facts now.records after
+  pub same : now ≡ record { label = old.label; records = now.records; ends = old.ends; limit = old.limit; closed = old.closed }
+
+-- the same logger, with where the files end then
+abbrev pub ending_at : Ends → Kept → Kept
+ending_at e l = record { label = l.label; records = l.records; ends = e; limit = l.limit; closed = l.closed }
+
+-- Where a group isn't written the logger is closed, or the disk failed, which closes it; the group is as it was.
+abbrev pub GroupStops : Kept → Kept → Group → Group → ℕ → ℕ → ℕ → LogFault → Type 0
+GroupStops old now before after start end k Closed = (k ≡ 0) × (old.closed ≡ true) × (now ≡ old) × (after ≡ before)
+GroupStops old now before after start end k DiskFault = (old.closed ≡ false) × (now ≡ closed_copy old) × (after ≡ before) × (k < counts_of before.runs) × Rose start end
+GroupStops old now before after start end k fault = ⊥
+
 -- ---- calls
 
 -- one result more is held
@@ -113,7 +100,7 @@ closed_back b = record { kept = closed_copy b.kept; runs = b.runs; planned = b.p
 
 -- all that was held is written, and the logger goes on behind it
 abbrev pub written_back : HeldBack → HeldBack
-written_back b = record { kept = record { label = b.kept.label; records = b.kept.records; ends = b.planned; limit = b.kept.limit; closed = b.kept.closed }; runs = []; planned = b.planned }
+written_back b = record { kept = ending_at b.planned b.kept; runs = []; planned = b.planned }
 
 -- A write is refused where the logger is closed, or by the disk, which closes it; the number counts the results that were written.
 abbrev pub WriteMayAnswer : HeldBack → HeldBack → ℕ → ℕ → ℕ → LogFault → Type 0
