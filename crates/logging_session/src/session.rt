@@ -201,9 +201,13 @@ impl Session {
             // It is open.
             unreachable!()
         };
-        batch.hold(alloc, answer, facts)?;
-        self.logged = self.logged.saturating_add(1);
-        Ok(())
+        match batch.hold(alloc, answer, facts) {
+            Ok(()) => {
+                self.logged = self.logged.saturating_add(1);
+                Ok(())
+            }
+            Err(fault) => Err(fault),
+        }
     }
 
     /// Logs a result: the first one opens the archive. It is judged where those before it leave the files, and held to be written; nothing is
@@ -290,8 +294,8 @@ impl Session {
         }
     }
 
-    /// Writes all that is held, makes all that was logged sure, and where that is wanted puts an entry behind the index where one is due: `Ok` acknowledges it. Before
-    /// the archive is open nothing is done.
+    /// Writes all that is held, makes all that was logged sure, and where that is wanted puts an entry behind the index where one is due: `Ok`
+    /// acknowledges it. Before the archive is open nothing is done.
     fn make_sure<D: Disk>(&mut self, disk: &mut D, puts_entry: bool) -> Result<(), LogFault>
         ensures done { D.tells → (left : AllFiles) (events : Sequence Event) → Keeps left events self.old (D.held disk.old) → OnOk result (Keeps left (behind events (sure_event puts_entry)) self.new (D.held disk.new)) }
         ensures settled { D.tells → (left : AllFiles) (events : Sequence Event) → Keeps left events self.old (D.held disk.old) → OnOk result (IsSettled (D.held disk.new)) }
@@ -323,8 +327,8 @@ impl Session {
         }
     }
 
-    /// Writes all that is held, makes all that was logged sure, and puts an entry behind the index where one is due: `Ok` acknowledges it. Before the archive is open
-    /// nothing is done.
+    /// Writes all that is held, makes all that was logged sure, and puts an entry behind the index where one is due: `Ok` acknowledges it. Before
+    /// the archive is open nothing is done.
     pub fn flush<D: Disk>(&mut self, disk: &mut D) -> Result<(), LogFault>
         ensures done { D.tells → (left : AllFiles) (events : Sequence Event) → Keeps left events self.old (D.held disk.old) → OnOk result (Keeps left (behind events Event.flushed) self.new (D.held disk.new)) }
         ensures settled { D.tells → (left : AllFiles) (events : Sequence Event) → Keeps left events self.old (D.held disk.old) → OnOk result (IsSettled (D.held disk.new)) }
@@ -348,7 +352,8 @@ impl Session {
         self.make_sure(disk, true)
     }
 
-    /// Writes all that is held, makes all that was logged sure, and puts no entry behind the index: `Ok` acknowledges it. Before the archive is open nothing is done.
+    /// Writes all that is held, makes all that was logged sure, and puts no entry behind the index: `Ok` acknowledges it. Before the archive is
+    /// open nothing is done.
     pub fn sync<D: Disk>(&mut self, disk: &mut D) -> Result<(), LogFault>
         ensures done { D.tells → (left : AllFiles) (events : Sequence Event) → Keeps left events self.old (D.held disk.old) → OnOk result (Keeps left (behind events Event.synced) self.new (D.held disk.new)) }
         ensures settled { D.tells → (left : AllFiles) (events : Sequence Event) → Keeps left events self.old (D.held disk.old) → OnOk result (IsSettled (D.held disk.new)) }

@@ -97,19 +97,20 @@ returns-in-Failed g c =
     let s : Carried = record { label = c.self.inside.label; limit = c.self.inside.limit; logged = c.self.inside.logged; place = c.self.inside.place } in
     let old = c.args.self.now in
     let held = d.held c.args.disk.now in
-    let is : s.place ≡ Failed = c.in-Failed.is in
-    let was : old.place ≡ Failed = sym (ap (λ (t : Carried). t.place) c.self.view_is) ∙ is in
+    let lost = c.in-Failed.field-0 in
+    let is : s.place ≡ Failed lost = c.in-Failed.is in
+    let was : old.place ≡ Failed lost = sym (ap (λ (t : Carried). t.place) c.self.view_is) ∙ is in
     record {
       done = λ tells left events k. tt;
       any_moment = λ tells left events k. no_call d g.met.D.Disk.only_now c.args.disk.now (ComesBackBy events left) (kept_comes left events old held k);
       refused = λ tells left events k other. k;
       closed = λ h. (refl, refl, refl);
-      stays = λ h. failed_not_open old was h;
+      stays = λ h. failed_not_open old lost was h;
       counts = λ found tells left events k. tt;
       labelled = λ h. refl;
       untouched = λ other. refl;
       open_ = tt;
-      cause = (failed_closed old was, refl);
+      cause = (failed_closed old lost was, refl);
       same = (refl, refl, refl);
       later = same_count (d.faults c.args.disk.now);
       quiet = tt;
