@@ -86,6 +86,7 @@ impl Session {
         ensures refused { D.tells → (left : AllFiles) (events : Sequence Event) → Keeps left events self.old (D.held disk.old)
             → IfErr result (λ e. e ≢ DiskFault → Keeps left events self.new (D.held disk.new)) }
         ensures counts { D.tells → (left : AllFiles) (events : Sequence Event) → Keeps left events self.old (D.held disk.old) → OnOk result (CountsAll self.new.place) }
+        ensures held { OnOk result (held_in self.new.place ≡ held_in self.old.place) }
         ensures labelled { IsLabelled self.old → disk.new ≡ disk.old }
         ensures untouched { IfErr result (λ e. e ≢ DiskFault → disk.new ≡ disk.old) }
         ensures open_ { OnOk result (IsOpen self.new) }
@@ -129,6 +130,7 @@ impl Session {
         ensures closed { IsClosed self.old → (result ≡ Err Closed) × (self.new ≡ self.old) × (disk.new ≡ disk.old) }
         ensures stays { IsOpen self.old → (result ≡ Ok tt) × (self.new ≡ self.old) × (disk.new ≡ disk.old) }
         ensures counts { IsFound self.old → D.tells → (left : AllFiles) (events : Sequence Event) → Keeps left events self.old (D.held disk.old) → OnOk result (CountsAll self.new.place) }
+        ensures held { OnOk result (held_in self.new.place ≡ held_in self.old.place) }
         ensures labelled { IsLabelled self.old → disk.new ≡ disk.old }
         ensures untouched { IfErr result (λ e. e ≢ DiskFault → disk.new ≡ disk.old) }
         ensures open_ { OnOk result (IsWorking self.old × IsOpen self.new) }

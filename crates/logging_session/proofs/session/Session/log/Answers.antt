@@ -1,5 +1,5 @@
 -- The archive is opened, and handed the result.
-use Rattle.std.proofs.Common.{◌≡◌, ◌≢◌, ◌⊎◌, ⊎_elim, Result, Ok, Err, sym, ap, subst}
+use Rattle.std.proofs.Common.{◌≡◌, ◌≢◌, ◌⊎◌, ⊎_elim, ℕ, ◌+◌, Result, Ok, Err, sym, ap, ◌∙◌, subst, arith}
 use Rattle.std.specs.Prelude.{IfErr, IsErrAnd, MatchResult, OnOk}
 use Rattle.std.proofs.lemmas.Result.{err_from_is_err_and}
 use Rattle.logger_core.specs.declared.fault.LogFault.{LogFault}
@@ -8,7 +8,7 @@ use Rattle.logger_core.proofs.Keeping.{handed_on}
 use Rattle.logging_session.specs.Answers.{CountsOn, LogFails, LogMayAnswer, MayTake, TakeFails, TakeMayAnswer}
 use Rattle.logging_session.specs.Course.{HasKept, HasNotLogged}
 use Rattle.logging_session.specs.Events.{opening, with_report}
-use Rattle.logging_session.specs.Keeping.{Carried, IsLabelled, IsLost, IsOpen, Keeps}
+use Rattle.logging_session.specs.Keeping.{Carried, IsLabelled, IsLost, IsOpen, Keeps, held_in}
 use Rattle.logging_session.specs.Written.{Report}
 use Rattle.logging_session.proofs.Logging.{log_fails, open_fails, open_may, take_may, take_not_lost}
 use Rattle.logging_session.proofs.Counting.{counted_from}
@@ -143,3 +143,13 @@ returns-clause-went g c = λ tells enough left events start h.
 
 pub returns-clause-unwritten : goal.returns-clause-unwritten
 returns-clause-unwritten g c = λ was. (c.open_for.ensures.stays was).2
+
+pub take-requires-clause-room : goal.take-requires-clause-room
+take-requires-clause-room g c = omega (arith, c.in_ok-open_for.ensures.held, c.requires.room)
+
+pub returns-clause-holds : goal.returns-clause-holds
+returns-clause-holds g c =
+    let old = c.args.self.now in
+    let middle = c.open_for.new.self in
+    let new = c.take.new.self in
+    on_ok c.take.result (held_in new.place ≡ held_in middle.place + 1) (held_in new.place ≡ held_in old.place + 1) (λ more. more ∙ ap (λ (n : ℕ). n + 1) c.in_ok-open_for.ensures.held) c.take.ensures.holds

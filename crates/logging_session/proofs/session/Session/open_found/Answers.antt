@@ -2,11 +2,12 @@
 use Rattle.std.proofs.Common.{◌≡◌, [], refl, sym, ap, ◌∙◌, subst}
 use Rattle.pcp_model.specs.Disk.{contents_of}
 use Rattle.pcp_outside.proofs.Crash.{weaker}
+use Rattle.logger_core.specs.Held.{counts_of}
 use Rattle.logger_core.specs.Holding.{HeldBack}
 use Rattle.logging_session.specs.declared.place.Place.TheVariants.{Found, Lost, Open}
 use Rattle.logging_session.specs.Answers.{ComesBackBy, CountsAll, WantsMemory}
 use Rattle.logging_session.specs.ComingBack.{ComesBackTo}
-use Rattle.logging_session.specs.Keeping.{Carried, HasLabel, Keeps}
+use Rattle.logging_session.specs.Keeping.{Carried, HasLabel, Keeps, held_in}
 use Rattle.logging_session.specs.Written.{starting}
 use Rattle.logging_session.proofs.Counting.{opened_counts}
 use Rattle.logging_session.proofs.Placed.{found_is, lost_answers, open_answers, open_rose}
@@ -34,6 +35,7 @@ returns-in-Ok g c =
       refused = λ tells left events k. tt;
       counts = λ tells left events k.
           subst (λ (x : HeldBack). CountsAll (Open x)) (sym c.of.ensures.same) (refl, opened_counts (starting s.label c.args.stamp) (contents_of held) logger after (c.in-Ok.ensures.opened tells (when_found left events old held k a was).0));
+      held = ap (λ (x : HeldBack). counts_of x.runs) c.of.ensures.same ∙ sym (ap held_in was);
       labelled = λ h. c.open.ensures.labelled (subst HasLabel was h);
       untouched = tt;
       open_ = tt;
@@ -58,6 +60,7 @@ returns-in-NoMemory g c =
           weaker d.moment d.left_since d.held c.args.disk.now c.open.new.disk (ComesBackTo [] 0 (contents_of held)) (ComesBackBy events left) (c.open.ensures.any_moment tells (when_found left events old held k a was).0) (found_comes left events old held k a was);
       refused = λ tells left events k other. loses left events s held (subst (λ (t : Carried). Keeps left events t held) (sym c.self.view_is) k) a (d.held c.open.new.disk) is (ap d.held (c.in-Err.ensures.untouched c.in-NoMemory.is));
       counts = λ tells left events k. tt;
+      held = tt;
       labelled = λ h. c.open.ensures.labelled (subst HasLabel was h);
       untouched = λ other. c.in-Err.ensures.untouched c.in-NoMemory.is;
       open_ = tt;
@@ -82,6 +85,7 @@ returns-in_default-fault g c =
           weaker d.moment d.left_since d.held c.args.disk.now c.open.new.disk (ComesBackTo [] 0 (contents_of held)) (ComesBackBy events left) (c.open.ensures.any_moment tells (when_found left events old held k a was).0) (found_comes left events old held k a was);
       refused = λ tells left events k other. open_rose {A = Keeps left events (with_place s c.replace.new.dest) (d.held c.open.new.disk)} (d.faults c.args.disk.now) (d.faults c.open.new.disk) c.in-Err.fault c.in-Err.ensures.fault c.in_default-fault.not-NoMemory other;
       counts = λ tells left events k. tt;
+      held = tt;
       labelled = λ h. c.open.ensures.labelled (subst HasLabel was h);
       untouched = λ other. open_rose {A = c.open.new.disk ≡ c.args.disk.now} (d.faults c.args.disk.now) (d.faults c.open.new.disk) c.in-Err.fault c.in-Err.ensures.fault c.in_default-fault.not-NoMemory other;
       open_ = tt;
