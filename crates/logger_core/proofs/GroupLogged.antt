@@ -167,7 +167,7 @@ module _ (old now inside : Kept) (group : List Told) (j : Judged) (p : IsJudgedB
     pub meant_runs : (runs : List Run) → runs ≡ j.group.runs → AreRuns m.contents.records inside.ends old.limit runs front now.records j.group.planned
     meant_runs runs same = subst (λ rs. AreRuns m.contents.records inside.ends old.limit rs front now.records j.group.planned) (sym same) (subst (λ rs. AreRuns rs inside.ends old.limit j.group.runs front now.records j.group.planned) (sym l.records_are) inside_runs)
 
-    pub front_logged : (ends : Ends) (new : Holdings) → RunWritten m inside.ends ends old.limit front now.records new → AreLogged m old (shown ends) front new
+    pub front_logged : {runs : List Run} (ends : Ends) (new : Holdings) → RunWritten m inside.ends ends old.limit runs front now.records new → AreLogged m old (shown ends) front new
     front_logged ends new w = subst (λ (k : Kept). AreLogged m old k front new) (sym (shown_is ends)) record {
       new = w.new;
       all = subst (λ (x : Ends). LogsAll m x.volume old.limit front w.new ends.volume) (sym same_ends) w.all;
@@ -226,7 +226,7 @@ module _ (old now inside : Kept) (group : List Told) (j : Judged) (p : IsJudgedB
     answers_touched runs before after same nothing = err_when r (λ e. j.refused ≡ Some e) (λ e. e.0 ≡ 0 → e.1 ≢ DiskFault → after ≡ before) some
         (λ e given first other. nothing (no_runs old.records inside.ends old.limit runs front now.records j.group.planned (given_runs runs same) (ap (λ o. held_of o group) given ∙ ap (λ (k : ℕ). take k group) first)))
 
-    module _ (m : Meant) (held new : Holdings) (l : IsLogger m old held) (w : RunWritten m inside.ends ends old.limit front now.records new) where
+    module _ (m : Meant) (held new : Holdings) (l : IsLogger m old held) {runs : List Run} (w : RunWritten m inside.ends ends old.limit runs front now.records new) where
       pub answers_done : OnOk r (AreLogged m old (shown ends) group new)
       answers_done = ok_when r (j.refused ≡ None) (AreLogged m old (shown ends) group new) none (λ given. subst (λ o. AreLogged m old (shown ends) (held_of o group) new) given (front_logged m held l ends new w))
 

@@ -24,7 +24,7 @@ use Rattle.logger_core.specs.declared.groups.Run.{Run}
 use Rattle.logger_core.specs.declared.preparing.Made.{Made}
 use Rattle.logger_core.specs.Going.{AreSmall}
 use Rattle.logger_core.specs.Grouping.{Told, LogsAll, LogsOne, MayBeAsked, AreAllEnough, AreLoggable, samples_of}
-use Rattle.logger_core.specs.Held.{IsBase, Grown, MayRun, IsRunOf, IsRunBounded, AreRuns, AreRunsBounded, AllCross, AreHeldBefore, IsHeldMore, IsRefusedAfter, run_of, joined_run, with_made, after_run, counts_of}
+use Rattle.logger_core.specs.Held.{IsBase, Grown, MayRun, IsRunOf, IsRunBounded, AreRuns, AreRunsBounded, AllCross, AreHeldBefore, IsHeldMore, IsRefusedAfter, run_of, joined_run, with_made, after_run, after_runs, counts_of}
 use Rattle.logger_core.specs.Logging.{IsMadeOf, IsRefused}
 use Rattle.logger_core.specs.LogSteps.{crosses, with_run}
 use Rattle.logger_core.specs.Meant.{Meant, AreEnds, items_in}
@@ -39,12 +39,42 @@ use Rattle.logger_core.proofs.Refused.{bounded}
 use Rattle.logger_core.proofs.RunJoined.{run_joined, last_joined}
 
 -- the bytes of two runs, one behind the other
-run_twice : (number : ℕ) (a b c d : List ℕ) (files : Files) (file : FileId) → with_run number b d (with_run number a c files) file ≡ with_run number (a ++ b) (c ++ d) files file
+pub run_twice : (number : ℕ) (a b c d : List ℕ) (files : Files) (file : FileId) → with_run number b d (with_run number a c files) file ≡ with_run number (a ++ b) (c ++ d) files file
 run_twice number a b c d files Meta = append_assoc (files Meta) a b
 run_twice number a b c d files Index = refl
 run_twice number a b c d files (Volume k) = twice (same_file (Volume number) (Volume k)) (files (Volume k)) c d
 
 -- ---- one result more in a run
+
+module _ (e : Ends) (limit : ℕ) (run : Run) (mid : List MetaRecord) (at : Ends) (g : Told) (made : Made) (after_is : at ≡ after_run e run) (was : IsRunBounded e run) (small : AreSmall at) (is : IsMadeOf mid at limit g.0 g.1 made) (stays : made.crossing ≡ false) (limited : limit ≤ 1073741824) where
+  abbrev one_longer : Run
+  one_longer = joined_run run made g.0.stamp
+
+  at_bounded : IsBounded at made
+  at_bounded = bounded mid at limit g.0 g.1 made small limited is
+
+  at_meta : at.meta ≡ e.meta + length run.records
+  at_meta = ap (λ (x : Ends). x.meta) after_is ∙ ap (λ (k : ℕ). k + length run.records) (ready_meta run.crossing e)
+
+  at_length : at.length ≡ (ready_ends run.crossing e).length + length run.items
+  at_length = ap (λ (x : Ends). x.length) after_is
+
+  pub longer_bounded : IsRunBounded e one_longer
+  longer_bounded = record {
+    some = omega arith;
+    next = was.next;
+    meta = omega (arith, at_meta, is.place.meta, length-append run.records made.records);
+    room = omega (arith, at_length, at_bounded.room stays, length-append run.items made.item);
+  }
+
+  -- the ends are those of the longer run
+  pub longer_after : after_run at (run_of made g.0.stamp) ≡ after_run e one_longer
+  longer_after =
+      ap (λ (b : Bool). ran_ends (length made.records) (length made.item) 1 g.0.stamp (ready_ends b at)) stays
+      ∙ ap (λ (x : Ends). ran_ends (length made.records) (length made.item) 1 g.0.stamp x) after_is
+      ∙ ran_twice (length run.records) (length made.records) (length run.items) (length made.item) run.count 1 run.stamp g.0.stamp (ready_ends run.crossing e)
+      ∙ ap (λ (k : ℕ). ran_ends k (length run.items + length made.item) (run.count + 1) g.0.stamp (ready_ends run.crossing e)) (sym (length-append run.records made.records))
+      ∙ ap (λ (k : ℕ). ran_ends (length (run.records ++ made.records)) k (run.count + 1) g.0.stamp (ready_ends run.crossing e)) (sym (length-append run.items made.item))
 
 module _ (records : List MetaRecord) (e : Ends) (limit : ℕ) (run : Run) (group : List Told) (mid : List MetaRecord) (at : Ends) (g : Told) (now : List MetaRecord) (made : Made) (r : IsRunOf records e limit run group mid at) (is : IsMadeOf mid at limit g.0 g.1 made)
     (stays : made.crossing ≡ false) (added : Adds mid made.records now) (some : 0 < length g.0.sets) (limited : limit ≤ 1073741824) where
@@ -53,31 +83,6 @@ module _ (records : List MetaRecord) (e : Ends) (limit : ℕ) (run : Run) (group
 
   abbrev longer : Run
   longer = joined_run run made g.0.stamp
-
-  at_bounded : IsBounded at made
-  at_bounded = bounded mid at limit g.0 g.1 made r.small limited is
-
-  at_meta : at.meta ≡ e.meta + length run.records
-  at_meta = ap (λ (x : Ends). x.meta) r.after_is ∙ ap (λ (k : ℕ). k + length run.records) (ready_meta run.crossing e)
-
-  at_length : at.length ≡ start.length + length run.items
-  at_length = ap (λ (x : Ends). x.length) r.after_is
-
-  longer_bounded : IsRunBounded e longer
-  longer_bounded = record {
-    next = r.bounded.next;
-    meta = omega (arith, at_meta, is.place.meta, length-append run.records made.records);
-    room = omega (arith, at_length, at_bounded.room stays, length-append run.items made.item);
-  }
-
-  -- the ends are those of the longer run
-  longer_after : after_run at (run_of made g.0.stamp) ≡ after_run e longer
-  longer_after =
-      ap (λ (b : Bool). ran_ends (length made.records) (length made.item) 1 g.0.stamp (ready_ends b at)) stays
-      ∙ ap (λ (x : Ends). ran_ends (length made.records) (length made.item) 1 g.0.stamp x) r.after_is
-      ∙ ran_twice (length run.records) (length made.records) (length run.items) (length made.item) run.count 1 run.stamp g.0.stamp start
-      ∙ ap (λ (k : ℕ). ran_ends k (length run.items + length made.item) (run.count + 1) g.0.stamp start) (sym (length-append run.records made.records))
-      ∙ ap (λ (k : ℕ). ran_ends (length (run.records ++ made.records)) k (run.count + 1) g.0.stamp start) (sym (length-append run.items made.item))
 
   still_first : slice_get (group ++ g ∷ []) 0 ≡ Some r.first
   still_first = by group r.is
@@ -156,8 +161,8 @@ module _ (records : List MetaRecord) (e : Ends) (limit : ℕ) (run : Run) (group
   pub longer_run : IsRunOf records e limit longer (group ++ g ∷ []) now (after_run at (run_of made g.0.stamp))
   longer_run = record {
     count_is = omega (arith, r.count_is, length-append group (g ∷ []));
-    bounded = longer_bounded;
-    after_is = longer_after;
+    bounded = longer_bounded e limit run mid at g made r.after_is r.bounded r.small is stays limited;
+    after_is = longer_after e limit run mid at g made r.after_is r.bounded r.small is stays limited;
     small = one_small mid at limit g now made is added some r.small limited;
     loggable = loggable_then records mid now e at (after_run at (run_of made g.0.stamp)) limit group (g ∷ []) r.loggable (one_loggable mid at limit g now made is added);
     first = r.first;
@@ -183,6 +188,10 @@ runs_small records e limit (r ∷ runs) group now after small all = runs_small a
 pub runs_bounded : (records : List MetaRecord) (e : Ends) (limit : ℕ) (runs : List Run) (group : List Told) (now : List MetaRecord) (after : Ends) → AreRuns records e limit runs group now after → AreRunsBounded e runs
 runs_bounded records e limit [] group now after all = tt
 runs_bounded records e limit (r ∷ runs) group now after all = (all.5.bounded, subst (λ (x : Ends). AreRunsBounded x runs) all.5.after_is (runs_bounded all.3 all.4 limit runs all.1 now after all.7))
+
+pub runs_after : (records : List MetaRecord) (e : Ends) (limit : ℕ) (runs : List Run) (group : List Told) (now : List MetaRecord) (after : Ends) → AreRuns records e limit runs group now after → after ≡ after_runs e runs
+runs_after records e limit [] group now after all = all.2
+runs_after records e limit (r ∷ runs) group now after all = runs_after all.3 all.4 limit runs all.1 now after all.7 ∙ ap (λ (x : Ends). after_runs x runs) all.5.after_is
 
 pub runs_count : (records : List MetaRecord) (e : Ends) (limit : ℕ) (runs : List Run) (group : List Told) (now : List MetaRecord) (after : Ends) → AreRuns records e limit runs group now after → counts_of runs ≡ length group
 runs_count records e limit [] group now after all = ap length (sym all.0)
@@ -238,28 +247,6 @@ pub last_count : (runs : List Run) (last : Run) → last.count ≤ counts_of (ru
 last_count [] last = omega arith
 last_count (r ∷ runs) last = omega (arith, last_count runs last)
 
-pub keep_begins : {E : Type 0} (r : Result (Unit {0}) E) (old rest mid new : List Run) (last run : Run) (made : Made) (t : Moment) → old ≡ rest ++ last ∷ [] → made.crossing ≡ true → mid ≡ rest ++ last ∷ [] → run ≡ run_of made t → OnOk r (new ≡ mid ++ run ∷ [])
-    → OnOk r (new ≡ with_made old made t)
-keep_begins (Ok v) old rest mid new last run made t cases crosses_is pushed this is =
-    is
-    ∙ ap (λ x. mid ++ x ∷ []) this
-    ∙ ap (λ rs. rs ++ run_of made t ∷ []) pushed
-    ∙ append_assoc rest (last ∷ []) (run_of made t ∷ [])
-    ∙ ap (λ (b : Bool). rest ++ (if b then last ∷ run_of made t ∷ [] else joined_run last made t ∷ [])) (sym crosses_is)
-    ∙ sym (with_made_last rest last made t)
-    ∙ ap (λ rs. with_made rs made t) (sym cases)
-keep_begins (Err e) old rest mid new last run made t cases crosses_is pushed this is = tt
-
-pub keep_joins : {E : Type 0} (r : Result (Unit {0}) E) (old rest new : List Run) (last joined : Run) (made : Made) (t : Moment) → old ≡ rest ++ last ∷ [] → made.crossing ≡ false → joined ≡ joined_run last made t → OnOk r (new ≡ rest ++ joined ∷ [])
-    → OnOk r (new ≡ with_made old made t)
-keep_joins (Ok v) old rest new last joined made t cases stays this is =
-    is
-    ∙ ap (λ x. rest ++ x ∷ []) this
-    ∙ ap (λ (b : Bool). rest ++ (if b then last ∷ run_of made t ∷ [] else joined_run last made t ∷ [])) (sym stays)
-    ∙ sym (with_made_last rest last made t)
-    ∙ ap (λ rs. with_made rs made t) (sym cases)
-keep_joins (Err e) old rest new last joined made t cases stays this is = tt
-
 -- what the metadata began with they still begin with
 front_kept : (records : List MetaRecord) (e : Ends) (limit : ℕ) (group : List Told) (now : List MetaRecord) (after : Ends) → AreLoggable records e limit group now after → (more : List MetaRecord) × (now ≡ records ++ more)
 front_kept records e limit [] now after all = ([], all.0 ∙ sym (append-nil records))
@@ -282,7 +269,7 @@ module _ (records : List MetaRecord) (e : Ends) (limit : ℕ) (done : List Told)
 pub small_after : (old held : Group) (known mid : List MetaRecord) (limit : ℕ) (g : Told) → AreSmall old.planned → limit ≤ 1073741824 → IsHeldMore known old limit g.0 g.1 mid held → 0 < length g.0.sets → AreSmall held.planned
 small_after old held known mid limit g small limited h some = subst AreSmall (sym h.planned_is) (one_small known old.planned limit g mid h.made h.is h.added some small limited)
 
-count_more : (runs : List Run) (made : Made) (t : Moment) → counts_of (with_made runs made t) ≡ counts_of runs + 1
+pub count_more : (runs : List Run) (made : Made) (t : Moment) → counts_of (with_made runs made t) ≡ counts_of runs + 1
 count_more [] made t = refl
 count_more (r ∷ []) made t = by made.crossing
   where
@@ -296,7 +283,7 @@ count_after old held known mid limit g h = ap counts_of h.runs_are ∙ count_mor
 
 -- the first of these is refused
 pub refused_first : (records : List MetaRecord) (e : Ends) (limit : ℕ) (done all rest : List Told) (known now : List MetaRecord) (old group : Group) (g : Told) (fault : LogFault) → all ≡ g ∷ rest → AreRuns records e limit old.runs done known old.planned → now ≡ known
-    → (fault ≢ NoMemory → group ≡ old) → IsRefused known old.planned limit g.0 g.1 fault → IsRefusedAfter records e limit done all now group 0 fault
+    → group ≡ old → IsRefused known old.planned limit g.0 g.1 fault → IsRefusedAfter records e limit done all now group 0 fault
 refused_first records e limit done all rest known now old group g fault is runs same kept h = by fault h kept
   where
     held : (f : LogFault) → IsRefused known old.planned limit g.0 g.1 f → group ≡ old → AreHeldBefore records e limit done all now group 0 f
@@ -305,12 +292,12 @@ refused_first records e limit done all rest known now old group g fault is runs 
       refusal = record { one = g; is = ap (λ gs. slice_get gs 0) is; refused = r };
     })
 
-    by : (f : LogFault) → IsRefused known old.planned limit g.0 g.1 f → (f ≢ NoMemory → group ≡ old) → IsRefusedAfter records e limit done all now group 0 f
+    by : (f : LogFault) → IsRefused known old.planned limit g.0 g.1 f → group ≡ old → IsRefusedAfter records e limit done all now group 0 f
     by Closed r k = absurd r
-    by (Large bytes) r k = held (Large bytes) r (k (λ e. cc))
-    by (NotLater last) r k = held (NotLater last) r (k (λ e. cc))
-    by (Changed pmid) r k = held (Changed pmid) r (k (λ e. cc))
-    by (Full file bytes) r k = held (Full file bytes) r (k (λ e. cc))
+    by (Large bytes) r k = held (Large bytes) r k
+    by (NotLater last) r k = held (NotLater last) r k
+    by (Changed pmid) r k = held (Changed pmid) r k
+    by (Full file bytes) r k = held (Full file bytes) r k
     by NoMemory r k = ap (take (length records)) same ∙ runs_front records e limit old.runs done known old.planned runs
     by DiskFault r k = absurd r
 

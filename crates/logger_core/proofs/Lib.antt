@@ -1,3 +1,5 @@
+pub mod Ahead
+pub mod AllSure
 pub mod Announced
 pub mod AsFound
 pub mod Calls
@@ -7,6 +9,7 @@ pub mod Grouped
 pub mod GroupLogged
 pub mod Growing
 pub mod HeldRuns
+pub mod Holds
 pub mod Items
 pub mod ItemsPut
 pub mod Keeping
@@ -23,10 +26,12 @@ pub mod Refused
 pub mod Reopened
 pub mod Rests
 pub mod RunJoined
+pub mod RunKept
 pub mod RunPut
 pub mod RunsWritten
 pub mod StillDescribed
 pub mod Survival
 pub mod Switched
+pub mod Timely
 pub mod Turned
 pub mod Whole

@@ -21,7 +21,7 @@ use Rattle.logger_core.specs.Laws.{IsWritten, IsNearer}
 
 -- ---- more bytes, or more of them sure
 
-more_sure : (earlier : ℕ) (payloads : List (List ℕ)) (old new acknowledged : ℕ) → old ≤ new → AreSure earlier payloads old acknowledged → AreSure earlier payloads new acknowledged
+pub more_sure : (earlier : ℕ) (payloads : List (List ℕ)) (old new acknowledged : ℕ) → old ≤ new → AreSure earlier payloads old acknowledged → AreSure earlier payloads new acknowledged
 more_sure earlier payloads old new acknowledged le (inl few) = inl few
 more_sure earlier payloads old new acknowledged le (inr some) = inr (some.0, some.1, omega (arith, some.2), some.3)
 

@@ -76,7 +76,7 @@ run_small e b records items count t small next meta index room = record {
 }
 
 pub run_bounded : (e : Ends) (made : Made) (t : Moment) → IsBounded e made → IsRunBounded e (run_of made t)
-run_bounded e made t b = record { next = b.next; meta = b.meta; room = ready_room made.crossing e (length made.item) b.item b.room }
+run_bounded e made t b = record { some = omega arith; next = b.next; meta = b.meta; room = ready_room made.crossing e (length made.item) b.item b.room }
 
 shown_twice : (a b c : ℕ) → shown_count (shown_count (a + b) + c) ≡ shown_count (a + (b + c))
 shown_twice a b c = omega arith

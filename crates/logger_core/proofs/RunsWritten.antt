@@ -1,32 +1,45 @@
 -- A run is written, and then the runs behind it.
-use Rattle.std.proofs.Common.{suc, ◌≡◌, inl, inr, ⊎_elim, ℕ, ◌+◌, true, List, [], ◌∷◌, ◌++◌, length, take, refl, sym, ap, ◌∙◌, subst, append_assoc, arith}
-use Rattle.std.specs.Prelude.{slice_get, Some, Result, Ok, Err, IfOk}
+use Rattle.std.proofs.Common.{suc, ◌≡◌, inl, inr, ⊎_elim, ℕ, ◌+◌, true, List, [], ◌∷◌, ◌++◌, length, take, refl, sym, ap, ◌∙◌, subst, append_assoc, arith, length-append}
+use Rattle.std.specs.Prelude.{slice_get, Some, Result, Ok, Err, IfOk, if◌then◌else◌, Bool, false}
+use Rattle.std.proofs.Math.Path.{fun_ext}
 use Rattle.std.proofs.Math.Seq.{take-append-add}
 use Rattle.std.proofs.lemmas.Option.{same_Some}
+use Rattle.pcp_base.specs.declared.file.FileId.{FileId}
+use Rattle.pcp_base.specs.declared.file.FileId.TheVariants.{Meta, Volume}
 use Rattle.pcp_base.specs.declared.result.Item.{Item}
 use Rattle.pcp_model.specs.declared.records.MetaRecord.{MetaRecord}
 use Rattle.pcp_model.specs.Disk.{Files, Holdings}
+use Rattle.pcp_model.specs.LabelFields.{LabelFields}
 use Rattle.pcp_model.specs.Payload.{payload_length}
+use Rattle.pcp_model.specs.Written.{with_added}
 use Rattle.pcp_model.proofs.Lists.{each-split}
 use Rattle.archive_meta.specs.Enough.{AreEnough}
 use Rattle.logger_core.specs.declared.ends.Ends.{Ends}
 use Rattle.logger_core.specs.declared.groups.Run.{Run}
 use Rattle.logger_core.specs.Going.{GrownTo, OnlyGrows}
 use Rattle.logger_core.specs.Grouping.{Told, LogsAll, AreAllEnough, AreLoggable, AreWritten, BeginsRun, samples_of}
-use Rattle.logger_core.specs.Held.{MayRun, IsRunOf, AreRuns, AllCross, RunWritten, after_run}
+use Rattle.logger_core.specs.Held.{MayRun, IsRunOf, AreRuns, AllCross, RunWritten, after_run, ready_files, runs_acknowledged, runs_files}
 use Rattle.logger_core.specs.Keeps.{Start}
 use Rattle.logger_core.specs.Laws.{Survives}
 use Rattle.logger_core.specs.Logging.{IsLoggable}
-use Rattle.logger_core.specs.LogSteps.{crosses, with_run}
+use Rattle.logger_core.specs.LogSteps.{base_files, crosses, with_next, with_run}
 use Rattle.logger_core.specs.Meant.{Meant, AreEnds, Stands, IsAt, items_in}
 use Rattle.logger_core.specs.Planning.{ran_ends, ready_ends}
 use Rattle.logger_core.specs.Runs.{IsReady, IsRunToCome, SurvivesWith}
+use Rattle.logger_core.specs.Steps.{with_entry}
 use Rattle.logger_core.proofs.Grouped.{samples_then, samples_many, loggable_then, logs_then}
 use Rattle.logger_core.proofs.Loggable.{survives_moved}
 use Rattle.logger_core.proofs.Planned.{base_of, grown_of}
+use Rattle.logger_core.proofs.Pointwise.{added_same}
 use Rattle.logger_core.proofs.Rests.{survives_with, survives_same}
+use Rattle.logger_core.proofs.Turned.{due_same}
 
 -- ---- one run
+
+-- the files before a run, by the numbers
+pub based : (m : Meant) (e : Ends) → AreEnds m e → (b : Bool) (file : FileId) → base_files b m.files m.contents e.volume e.greatest file ≡ ready_files m.contents.label b e m.files file
+based m e ends true file = ap (λ o. with_next m.contents.label (e.volume + 1) e.greatest (with_entry o m.files) file) (sym (due_same m e ends))
+based m e ends false file = refl
 
 module _ (m : Meant) (e start : Ends) (held mid : Holdings) (limit : ℕ) (run : Run) (group : List Told) (now : List MetaRecord) (after : Ends) (at : IsAt m e held) (r : IsRunOf m.contents.records e limit run group now after) (enough : AreAllEnough group)
     (start_is : start ≡ ready_ends run.crossing e) (ready : IsReady m e start run.crossing mid) where
@@ -41,7 +54,10 @@ module _ (m : Meant) (e start : Ends) (held mid : Holdings) (limit : ℕ) (run :
   run_come records items first second =
       subst (λ t. IsRunToCome ready.new may_run.records (samples_of group) t items) (sym first) (subst (λ t. IsRunToCome ready.new may_run.records (samples_of group) run.records t) (sym second) may_run.come)
 
-  pub run_written : (next : Ends) (new : Holdings) → next.volume ≡ start.volume → GrownTo ready.new may_run.records [] (samples_of group) (with_run start.volume run.records run.items ready.new.files) next new → RunWritten m e next limit group now new
+  ready_are : (file : FileId) → ready.new.files file ≡ ready_files m.contents.label run.crossing e m.files file
+  ready_are file = ready.files_are file ∙ based m e at.ends run.crossing file
+
+  pub run_written : (next : Ends) (new : Holdings) → next.volume ≡ start.volume → GrownTo ready.new may_run.records [] (samples_of group) (with_run start.volume run.records run.items ready.new.files) next new → RunWritten m e next limit (run ∷ []) group now new
   run_written next new number g = record {
     new = g.0.new;
     started = g.0.started ∙ ready.started;
@@ -49,13 +65,18 @@ module _ (m : Meant) (e start : Ends) (held mid : Holdings) (limit : ℕ) (run :
     records_are = g.0.longer.records ∙ sym may_run.now_is;
     items_are = g.0.longer.items ∙ ap (λ xs. xs ++ samples_of group) ready.items_same;
     still = omega (arith, ready.still, g.0.acknowledged_is);
+    acknowledged_is = g.0.acknowledged_is ∙ ready.acknowledged_is;
+    files_are = λ file. g.0.files_are file
+        ∙ added_same (Volume start.volume) run.items (with_added Meta run.records ready.new.files) (with_added Meta run.records (ready_files m.contents.label run.crossing e m.files))
+        (added_same Meta run.records ready.new.files (ready_files m.contents.label run.crossing e m.files) ready_are) file
+        ∙ ap (λ (k : ℕ). with_run k run.records run.items (ready_files m.contents.label run.crossing e m.files) file) (ap (λ (x : Ends). x.volume) start_is);
     all = subst (λ (k : ℕ). LogsAll m e.volume limit group g.0.new k) (sym number)
         (may_run.all g.0.new (grown_of ready.new may_run.records (samples_of group) (with_run start.volume run.records run.items ready.new.files) next.volume new g.0));
     at = record { stands = g.0.stands; ends = g.1 };
   }
 
   pub run_ok : {E : Type 0} (new : Holdings) (result : Result Ends E) (records items : List ℕ) → records ≡ run.records → items ≡ run.items → IfOk result (λ next. next ≡ ran_ends (length records) (length items) run.count run.stamp start)
-      → IfOk result (λ next. GrownTo ready.new may_run.records [] (samples_of group) (with_run start.volume records items ready.new.files) next new) → IfOk result (λ next. RunWritten m e next limit group now new)
+      → IfOk result (λ next. GrownTo ready.new may_run.records [] (samples_of group) (with_run start.volume records items ready.new.files) next new) → IfOk result (λ next. RunWritten m e next limit (run ∷ []) group now new)
   run_ok new (Ok next) records items first second exact g = run_written next new (ap (λ (x : Ends). x.volume) exact)
       (subst (λ t. GrownTo ready.new may_run.records [] (samples_of group) (with_run start.volume run.records t ready.new.files) next new) second
       (subst (λ t. GrownTo ready.new may_run.records [] (samples_of group) (with_run start.volume t items ready.new.files) next new) first g))
@@ -66,10 +87,10 @@ first_many group is = samples_many group ∙ sym is
 
 -- ---- runs, one behind another
 
-pub nothing_written : (m : Meant) (e : Ends) (limit : ℕ) (group : List Told) (now : List MetaRecord) (after : Ends) (held : Holdings) → IsAt m e held → AreRuns m.contents.records e limit [] group now after → RunWritten m e e limit group now held
+pub nothing_written : (m : Meant) (e : Ends) (limit : ℕ) (group : List Told) (now : List MetaRecord) (after : Ends) (held : Holdings) → IsAt m e held → AreRuns m.contents.records e limit [] group now after → RunWritten m e e limit [] group now held
 nothing_written m e limit group now after held at all =
-    subst (λ gs. RunWritten m e e limit gs now held) (sym all.0)
-    record { new = m; started = refl; label_same = refl; records_are = sym all.1; items_are = sym (append_nil (items_in m)); still = omega arith; all = (refl, refl); at = at }
+    subst (λ gs. RunWritten m e e limit [] gs now held) (sym all.0)
+    record { new = m; started = refl; label_same = refl; records_are = sym all.1; items_are = sym (append_nil (items_in m)); still = omega arith; acknowledged_is = refl; files_are = λ file. refl; all = (refl, refl); at = at }
   where
     append_nil : (xs : List Item) → xs ++ [] ≡ xs
     append_nil [] = refl
@@ -96,7 +117,7 @@ module _ (m : Meant) (e next : Ends) (limit : ℕ) (run : Run) (runs : List Run)
       (append_assoc (items_in m) (samples_of all.0) (samples_of all.1) ∙ ap (λ xs. items_in m ++ xs) (sym samples_are))
       (survives_with m.start (items_in m ++ samples_of all.0) (samples_of all.1) m.acknowledged m.acknowledged image w (omega arith)) (omega arith)
 
-  module _ (mid : Holdings) (w : RunWritten m e next limit all.0 all.3 mid) where
+  module _ (mid : Holdings) (w : RunWritten m e next limit (run ∷ []) all.0 all.3 mid) where
     pub rest_runs : AreRuns w.new.contents.records next limit runs all.1 now after
     rest_runs = subst (λ rs. AreRuns rs next limit runs all.1 now after) (sym w.records_are) (subst (λ (x : Ends). AreRuns all.3 x limit runs all.1 now after) (all.5.after_is ∙ sym next_is) all.7)
 
@@ -106,7 +127,10 @@ module _ (m : Meant) (e next : Ends) (limit : ℕ) (run : Run) (runs : List Run)
         (survives_same w.new.start (items_in w.new ++ samples_of all.1) (items_in m ++ samples_of group) w.new.acknowledged m.acknowledged image
         (ap (λ xs. xs ++ samples_of all.1) w.items_are ∙ append_assoc (items_in m) (samples_of all.0) (samples_of all.1) ∙ ap (λ xs. items_in m ++ xs) (sym samples_are)) s w.still)
 
-    pub rest_written : (last : Ends) (new : Holdings) → RunWritten w.new next last limit all.1 now new → RunWritten m e last limit group now new
+    many : length (items_in w.new) ≡ length (items_in m) + run.count
+    many = omega (arith, ap length w.items_are, length-append (items_in m) (samples_of all.0), samples_many all.0, all.5.count_is)
+
+    pub rest_written : (last : Ends) (new : Holdings) → RunWritten w.new next last limit runs all.1 now new → RunWritten m e last limit (run ∷ runs) group now new
     rest_written last new r = record {
       new = r.new;
       started = r.started ∙ w.started;
@@ -114,6 +138,11 @@ module _ (m : Meant) (e next : Ends) (limit : ℕ) (run : Run) (runs : List Run)
       records_are = r.records_are;
       items_are = r.items_are ∙ ap (λ xs. xs ++ samples_of all.1) w.items_are ∙ append_assoc (items_in m) (samples_of all.0) (samples_of all.1) ∙ ap (λ xs. items_in m ++ xs) (sym samples_are);
       still = omega (arith, w.still, r.still);
+      acknowledged_is = r.acknowledged_is ∙ ap (λ (a : ℕ). runs_acknowledged runs (length (items_in w.new)) a) w.acknowledged_is ∙ ap (λ (n : ℕ). runs_acknowledged runs n (if run.crossing then length (items_in m) else m.acknowledged)) many;
+      files_are = λ file. r.files_are file
+          ∙ ap (λ (x : LabelFields). runs_files x next runs w.new.files file) w.label_same
+          ∙ ap (λ (x : Ends). runs_files m.contents.label x runs w.new.files file) next_is
+          ∙ ap (λ (f : Files). runs_files m.contents.label (after_run e run) runs f file) (fun_ext w.files_are);
       all = subst (λ gs. LogsAll m e.volume limit gs r.new last.volume) (sym all.2) (logs_then m w.new r.new e.volume next.volume last.volume limit all.0 all.1 w.all r.all);
       at = r.at;
     }

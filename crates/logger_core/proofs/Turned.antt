@@ -41,7 +41,7 @@ due_leads m e held at sure = lead_if_any m e held (due e.greatest e.logged e.ent
     leads m e held d.t x at sure d.stamped d.is)
 
 -- what is due by the numbers is due by the files
-due_same : (m : Meant) (e : Ends) → AreEnds m e → due e.greatest e.logged e.entry e.index e.volume e.meta e.length ≡ due_in m.files m.contents e.volume e.greatest
+pub due_same : (m : Meant) (e : Ends) → AreEnds m e → due e.greatest e.logged e.entry e.index e.volume e.meta e.length ≡ due_in m.files m.contents e.volume e.greatest
 due_same m e ends =
     ap (λ (n : ℕ). due e.greatest n e.entry e.index e.volume e.meta e.length) ends.logged
     ∙ due_capped e.greatest (length (items_in m)) e.entry e.index e.volume e.meta e.length

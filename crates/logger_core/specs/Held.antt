@@ -7,6 +7,7 @@ use Rattle.pcp_base.specs.declared.result.Item.{Item}
 use Rattle.pcp_base.specs.declared.result.PmResult.{PmResult}
 use Rattle.pcp_model.specs.declared.records.MetaRecord.{MetaRecord}
 use Rattle.pcp_model.specs.Disk.{Files, Holdings}
+use Rattle.pcp_model.specs.LabelFields.{LabelFields}
 use Rattle.pcp_model.specs.Laws.{IsLonger}
 use Rattle.pcp_model.specs.Payload.{payload_length}
 use Rattle.archive_meta.specs.declared.facts.Facts.{Facts}
@@ -21,10 +22,11 @@ use Rattle.logger_core.specs.declared.preparing.Made.{Made}
 use Rattle.logger_core.specs.Going.{AreSmall, acknowledged_before}
 use Rattle.logger_core.specs.Grouping.{Told, LogsAll, AreAllEnough, AreLoggable, samples_of}
 use Rattle.logger_core.specs.Logging.{IsMadeOf, IsRefused}
-use Rattle.logger_core.specs.LogSteps.{base_files, crosses, entries_put, with_run}
+use Rattle.logger_core.specs.LogSteps.{base_files, crosses, entries_put, with_next, with_run}
 use Rattle.logger_core.specs.Meant.{Meant, Kept, AreEnds, IsAt, items_in}
-use Rattle.logger_core.specs.Planning.{ran_ends, ready_ends}
+use Rattle.logger_core.specs.Planning.{due_at, ran_ends, ready_ends}
 use Rattle.logger_core.specs.Runs.{IsRunToCome, IsLastStamp}
+use Rattle.logger_core.specs.Steps.{with_entry}
 
 -- the run of one result
 abbrev pub run_of : Made → Moment → Run
@@ -49,8 +51,39 @@ counts_of (r ∷ runs) = r.count + counts_of runs
 abbrev pub after_run : Ends → Run → Ends
 after_run e run = ran_ends (length run.records) (length run.items) run.count run.stamp (ready_ends run.crossing e)
 
--- no count of bytes comes near what 64 bits hold
+-- where the files end once all of these runs are written
+abbrev pub after_runs : Ends → List Run → Ends
+after_runs e [] = e
+after_runs e (run ∷ runs) = after_runs (after_run e run) runs
+
+-- how many bytes the records of the held results take
+abbrev pub items_length : List Run → ℕ
+items_length [] = 0
+items_length (run ∷ runs) = length run.items + items_length runs
+
+-- ---- what runs leave
+
+-- the files before a run: a switch, where the next volume is opened for it
+abbrev pub ready_files : LabelFields → Bool → Ends → Files → Files
+ready_files l crossing e files = if crossing then with_next l (e.volume + 1) e.greatest (with_entry (due_at e) files) else files
+
+-- the files behind a run
+abbrev pub run_files : LabelFields → Ends → Run → Files → Files
+run_files l e run files = with_run (ready_ends run.crossing e).volume run.records run.items (ready_files l run.crossing e files)
+
+-- the files behind runs
+abbrev pub runs_files : LabelFields → Ends → List Run → Files → Files
+runs_files l e [] files = files
+runs_files l e (run ∷ runs) files = runs_files l (after_run e run) runs (run_files l e run files)
+
+-- how many items are acknowledged behind runs: a switch acknowledges all that stood before it
+abbrev pub runs_acknowledged : List Run → ℕ → ℕ → ℕ
+runs_acknowledged [] items acknowledged = acknowledged
+runs_acknowledged (run ∷ runs) items acknowledged = runs_acknowledged runs (items + run.count) (if run.crossing then items else acknowledged)
+
+-- a run has a result, and no count of bytes comes near what 64 bits hold
 pub record IsRunBounded (e : Ends) (run : Run) : Type 0 where
+  pub some : 0 < run.count
   pub next : run.crossing ≡ true → e.volume + 1 < 2147483648
   pub meta : e.meta + length run.records < 9223372036854775808
   pub room : (ready_ends run.crossing e).length + length run.items < 9223372036854775808
@@ -108,14 +141,16 @@ AreRuns records e limit [] group now after = (group ≡ []) × (now ≡ records)
 AreRuns records e limit (run ∷ runs) group now after =
     (first : List Told) × (rest : List Told) × (group ≡ first ++ rest) × (mid : List MetaRecord) × (at : Ends) × IsRunOf records e limit run first mid at × AllCross runs × AreRuns mid at limit runs rest now after
 
--- a run was written
-pub record RunWritten (m : Meant) (e next : Ends) (limit : ℕ) (group : List Told) (now : List MetaRecord) (held : Holdings) : Type 0 where
+-- runs were written
+pub record RunWritten (m : Meant) (e next : Ends) (limit : ℕ) (runs : List Run) (group : List Told) (now : List MetaRecord) (held : Holdings) : Type 0 where
   pub new : Meant
   pub started : new.start ≡ m.start
   pub label_same : new.contents.label ≡ m.contents.label
   pub records_are : new.contents.records ≡ now
   pub items_are : items_in new ≡ items_in m ++ samples_of group
   pub still : m.acknowledged ≤ new.acknowledged
+  pub acknowledged_is : new.acknowledged ≡ runs_acknowledged runs (length (items_in m)) m.acknowledged
+  pub files_are : (file : FileId) → new.files file ≡ runs_files m.contents.label e runs m.files file
   pub all : LogsAll m e.volume limit group new next.volume
   pub at : IsAt new next held
 

@@ -1,6 +1,7 @@
 pub mod Created
 pub mod Going
 pub mod Held
+pub mod Holding
 pub mod Keeps
 pub mod Grouping
 pub mod LogSteps

@@ -1,10 +1,10 @@
 //! What is held to be written: runs of results, each made before any write.
-ghost use Rattle.std.specs.Prelude.{◌≡◌, ◌≢◌, ◌<◌, ◌≤◌, ◌++◌, ◌+◌, length, true, false, List as Sequence, IfOk, IfErr, OnOk, OnErr};
+ghost use Rattle.std.specs.Prelude.{◌≡◌, ◌≢◌, ◌<◌, ◌≤◌, ◌++◌, ◌+◌, [], if◌then◌else◌, length, min, take, true, false, List as Sequence, IfOk, IfErr, OnOk, OnErr};
 ghost use Rattle.std.specs.List.{AllByRecursion};
 ghost use Rattle.pcp_base.specs.Results.{Fits};
 ghost use Rattle.logger_core.specs.Going.{AreSmall};
 ghost use Rattle.logger_core.specs.Grouping.{MayBeAsked, Told};
-ghost use Rattle.logger_core.specs.Held.{AreRuns, IsHeldMore, IsRefusedAfter, run_of, joined_run, with_made, counts_of};
+ghost use Rattle.logger_core.specs.Held.{AreRuns, IsHeldMore, IsRefusedAfter, run_of, joined_run, with_made, counts_of, items_length};
 ghost use Rattle.pcp_model.specs.declared.records.MetaRecord.{MetaRecord as Record};
 ghost use Rattle.logger_core.specs.declared.ends.Ends.{Ends as Numbers};
 ghost use Rattle.logger_core.specs.declared.fault.LogFault.TheVariants.{NoMemory as Refused};
@@ -20,6 +20,7 @@ use crate::preparing::{Made, prepare};
 use archive_meta::{Facts, MetaState};
 use pcp_base::{Bytes, List, NoMemory, PmResult, Stamp};
 use std::alloc::Global;
+use std::mem;
 
 /// A run of results: whether the next volume is opened before it, the framed records of Meta that they need, their own framed
 /// records, how many they are, and the stamp of the last.
@@ -52,46 +53,119 @@ fn run_of(made: Made, stamp: Stamp) -> Run
     }
 }
 
-/// Bytes with more behind them.
-fn with_more(bytes: Bytes, more: &[u8]) -> Result<Bytes, NoMemory>
-    ensures { IfOk result (λ all. all ≡ bytes ++ more.now) }
+/// Bytes with more behind them; without memory they are as they were, and the answer is `false`.
+fn with_more(bytes: Bytes, more: &[u8]) -> (Bytes, bool)
+    ensures { result.0 ≡ (if result.1 then bytes ++ more.now else bytes) }
 {
     let mut all = bytes.into_vec();
-    all.extend_from_slice(more)?;
-    Ok(List::from_vec(all))
+    let grown = all.extend_from_slice(more).is_ok();
+    (List::from_vec(all), grown)
 }
 
-/// A run with one result more.
-fn joined_run(run: Run, made: &Made, stamp: Stamp) -> Result<Run, NoMemory>
-    requires { run.count < 4294967295 }
-    ensures { IfOk result (λ r. r ≡ joined_run run made.now stamp) }
+/// The first so many bytes.
+fn first_bytes(bytes: Bytes, count: usize) -> Bytes
+    ensures { result ≡ take count bytes }
 {
-    let records = with_more(run.records, made.records.as_slice())?;
-    let items = with_more(run.items, made.item.as_slice())?;
-    Ok(Run {
+    let mut all = bytes.into_vec();
+    all.truncate(count);
+    List::from_vec(all)
+}
+
+/// A run with one result more; without memory it is as it was, and the answer is `false`.
+fn joined(run: Run, made: &Made, stamp: Stamp) -> (Run, bool)
+    requires { run.count < 4294967295 }
+    ensures { result.0 ≡ (if result.1 then joined_run run made.now stamp else run) }
+{
+    let (records_length, items_length) = (run.records.len(), run.items.len());
+    let (records, has_records) = with_more(run.records, made.records.as_slice());
+    let (items, has_items) = with_more(run.items, made.item.as_slice());
+    if has_records && has_items {
+        let longer = Run {
+            crossing: run.crossing,
+            records,
+            items,
+            count: run.count + 1,
+            stamp,
+        };
+        return (longer, true);
+    }
+    let same = Run {
         crossing: run.crossing,
-        records,
-        items,
-        count: run.count + 1,
-        stamp,
-    })
+        records: first_bytes(records, records_length),
+        items: first_bytes(items, items_length),
+        count: run.count,
+        stamp: run.stamp,
+    };
+    (same, false)
 }
 
 /// Puts what was made of a result behind the runs: into the last one, or into a new one, where there is none or the result goes
-/// into the next volume.
-fn keep(runs: &mut List<Run>, made: Made, stamp: Stamp) -> Result<(), NoMemory>
-    requires { counts_of runs.old < 4294967295 }
-    ensures { OnOk result (runs.new ≡ with_made runs.old made stamp) }
+/// into the next volume. A refusal leaves them as they were.
+fn put(runs: &mut Vec<Run>, made: Made, stamp: Stamp) -> Result<(), NoMemory>
+    requires { counts_of runs.old.items < 4294967295 }
+    ensures ok { OnOk result (runs.new.items ≡ with_made runs.old.items made stamp) }
+    ensures err { OnErr result (runs.new.items ≡ runs.old.items) }
 {
+    runs.reserve(1)?;
     let Some(last) = runs.pop() else {
-        return runs.push(run_of(made, stamp));
+        runs.push_reserved(run_of(made, stamp));
+        return Ok(());
     };
     if made.crossing {
-        runs.push(last)?;
-        return runs.push(run_of(made, stamp));
+        runs.push_reserved(last);
+        runs.push_reserved(run_of(made, stamp));
+        return Ok(());
     }
-    let joined = joined_run(last, &made, stamp)?;
-    runs.push(joined)
+    let (run, grown) = joined(last, &made, stamp);
+    runs.push_reserved(run);
+    if !grown {
+        return Err(NoMemory);
+    }
+    Ok(())
+}
+
+/// The same of a list of runs.
+fn keep(alloc: Global, runs: &mut List<Run>, made: Made, stamp: Stamp) -> Result<(), NoMemory>
+    requires { counts_of runs.old < 4294967295 }
+    ensures ok { OnOk result (runs.new ≡ with_made runs.old made stamp) }
+    ensures err { OnErr result (runs.new ≡ runs.old) }
+{
+    let mut all = mem::replace(runs, List::empty(alloc)).into_vec();
+    let result = put(&mut all, made, stamp);
+    *runs = List::from_vec(all);
+    result
+}
+
+/// Lets all runs go. No memory is taken.
+pub(crate) fn let_go(runs: &mut List<Run>)
+    ensures { runs.new ≡ [] }
+{
+    let mut left = runs.len();
+    while left > 0 {
+        runs.pop();
+        left -= 1;
+    }
+}
+
+/// How many results the runs hold.
+pub(crate) fn count_of(runs: &[Run]) -> u32
+    requires { counts_of runs.now < 4294967296 }
+    ensures { result ≡ counts_of runs.now }
+{
+    let Some((first, rest)) = runs.split_first() else {
+        return 0;
+    };
+    first.count + count_of(rest)
+}
+
+/// How many bytes the records of their results take, at most 2^64 - 1.
+pub(crate) fn items_length(runs: &[Run]) -> u64
+    ensures { result ≡ min (items_length runs.now) 18446744073709551615 }
+{
+    let Some((first, rest)) = runs.split_first() else {
+        return 0;
+    };
+    items_length(rest).saturating_add(first.items.len() as u64)
 }
 
 /// Where the files end once one more result is written, of which this was made.
@@ -103,8 +177,8 @@ fn planned(ends: &Ends, made: &Made, stamp: Stamp) -> Ends
     planned_ends(ends, made.crossing, records, item, stamp)
 }
 
-/// Judges a result where the files will end, adds its metadata to those that are known, and holds what is written of it. No
-/// refusal but `NoMemory` changes anything; that one leaves the metadata as they were.
+/// Judges a result where the files will end, adds its metadata to those that are known, and holds what is written of it. A refusal
+/// leaves all as it was.
 pub(crate) fn hold(
     meta: &mut MetaState,
     alloc: Global,
@@ -121,13 +195,13 @@ pub(crate) fn hold(
     ensures held { OnOk result (IsHeldMore meta.old group.old limit answer.now facts.now meta.new group.new) }
     ensures fault { IfErr result (IsRefused meta.old group.old.planned limit answer.now facts.now) }
     ensures known { OnErr result (meta.new ≡ meta.old) }
-    ensures same { IfErr result (λ e. e ≢ Refused → group.new ≡ group.old) }
+    ensures same { OnErr result (group.new ≡ group.old) }
 {
     let made = prepare(alloc, meta, &group.planned, limit, answer, facts)?;
     let planned = planned(&group.planned, &made, answer.stamp);
     let count = meta.count();
     extend(meta, alloc, made.records.as_slice())?;
-    match keep(&mut group.runs, made, answer.stamp) {
+    match keep(alloc, &mut group.runs, made, answer.stamp) {
         Ok(()) => {
             group.planned = planned;
             Ok(())

@@ -1,6 +1,7 @@
 //! What holds of what a logger keeps. Each is the contract of a function without parameters, which does nothing.
 ghost use Rattle.logger_core.specs.Recovering.{SurvivorsAreRecovered};
 ghost use Rattle.logger_core.specs.Grouping.{GroupOfOneIsLogged};
+ghost use Rattle.logger_core.specs.Holding.{LoggerHoldsNothing, HoldingNothingIsALogger};
 ghost use Rattle.logger_core.specs.Laws.{KeptFilesSurvive, NearerIsKept, SureIsAcknowledged, SureIsKnown, ItemIsAnnounced, RecordsAreAnnounced, LaterRecordsDescribe, EntryIsAnnounced, VolumeIsAnnounced, WholeIsKept, RecoveredIsWhole};
 
 /// Whatever a crash leaves of what a logger keeps is an archive of the first of its items, with all acknowledged ones,
@@ -69,4 +70,14 @@ pub fn survivors_are_recovered()
 /// A group of one is logged as one result is.
 pub fn group_of_one_is_logged()
     ensures { GroupOfOneIsLogged }
+{}
+
+/// A logger is one that holds no results to be written.
+pub fn logger_holds_nothing()
+    ensures { LoggerHoldsNothing }
+{}
+
+/// One that holds no results is a logger of the archive that is meant once all is written.
+pub fn holding_nothing_is_a_logger()
+    ensures { HoldingNothingIsALogger }
 {}

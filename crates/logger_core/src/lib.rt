@@ -3,6 +3,7 @@
 //! described by the metadata that is left.
 #![tactic(auto)]
 
+mod batch;
 mod creating;
 mod ends;
 mod entries;
@@ -20,11 +21,12 @@ mod running;
 mod switching;
 mod writing;
 
+pub use batch::Batch;
 pub use fault::LogFault;
 pub use laws::{
-    entry_is_announced, group_of_one_is_logged, item_is_announced, kept_files_survive,
-    later_records_describe, nearer_is_kept, records_are_announced, recovered_is_whole,
-    sure_is_acknowledged, sure_is_known, survivors_are_recovered, volume_is_announced,
-    whole_is_kept,
+    entry_is_announced, group_of_one_is_logged, holding_nothing_is_a_logger, item_is_announced,
+    kept_files_survive, later_records_describe, logger_holds_nothing, nearer_is_kept,
+    records_are_announced, recovered_is_whole, sure_is_acknowledged, sure_is_known,
+    survivors_are_recovered, volume_is_announced, whole_is_kept,
 };
 pub use logger::Logger;

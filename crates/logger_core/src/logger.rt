@@ -1,20 +1,23 @@
 //! What a logger keeps, and its calls.
-ghost use Rattle.std.specs.Prelude.{◌≡◌, ◌≢◌, ◌<◌, ◌≤◌, [], ◌∷◌, true, false, length, None, Some, Err, IfOk, IfErr, MatchOption, OnOk};
+ghost use Rattle.std.specs.Prelude.{◌≡◌, ◌≢◌, ◌<◌, ◌≤◌, [], ◌∷◌, true, false, length, take, ℕ, List as Sequence, None, Some, Err, Ok, IfOk, IfErr, MatchOption, OnErr, OnOk};
 ghost use Rattle.pcp_model.specs.Disk.{IsEmpty, contents_of};
+ghost use Rattle.pcp_model.specs.declared.records.MetaRecord.{MetaRecord as Record};
+ghost use Rattle.logger_core.specs.declared.ends.Ends.{Ends as Numbers};
 ghost use Rattle.pcp_outside.specs.Devices.{LeavesOnly};
 ghost use Rattle.logger_core.specs.declared.fault.LogFault.TheVariants.{Closed, NoMemory as Refused, DiskFault};
 ghost use Rattle.std.specs.List.{AllByRecursion};
 ghost use Rattle.pcp_base.specs.Results.{Fits};
 ghost use Rattle.pcp_base.specs.declared.result.Item.TheVariants.{Sample};
 ghost use Rattle.archive_meta.specs.Enough.{AreEnough};
-ghost use Rattle.logger_core.specs.Grouping.{MayBeAsked, AreAllEnough, AreLogged, AreLoggable, GroupMayAnswer, LeavesFirst, samples_of};
-ghost use Rattle.logger_core.specs.Held.{IsJudgedBy, JudgeMayAnswer};
+ghost use Rattle.logger_core.specs.Grouping.{MayBeAsked, AreAllEnough, AreLogged, AreLoggable, AreWritten, BeginsRun, GroupMayAnswer, LeavesFirst, Told, samples_of};
+ghost use Rattle.logger_core.specs.Held.{AreRuns, AreRunsBounded, IsJudgedBy, JudgeMayAnswer, RunWritten, after_runs, counts_of};
+ghost use Rattle.logger_core.specs.Holding.{GroupStops, HoldMayAnswer, IsHeldBy, ending_at};
 ghost use Rattle.logger_core.specs.Logging.{IsLogged, IsLoggable, IsPrepared, PrepareMayAnswer, LogMayAnswer};
 ghost use Rattle.logger_core.specs.Runs.{SurvivesWith};
 ghost use Rattle.logger_core.specs.Writing.{IsBounded};
 ghost use Rattle.logger_core.specs.Created.{HasNoItem, IsCreated, first_ends};
-ghost use Rattle.logger_core.specs.Going.{AreSmall, IsFlushed, IsVolumeSure, all_acknowledged, counting_all};
-ghost use Rattle.logger_core.specs.Meant.{Meant, IsLogger, SurvivesOf};
+ghost use Rattle.logger_core.specs.Going.{AreSmall, IsFlushed, IsReachable, IsVolumeSure, all_acknowledged, counting_all};
+ghost use Rattle.logger_core.specs.Meant.{Meant, IsAt, IsLogger, SurvivesOf};
 ghost use Rattle.logger_core.specs.Refusals.{FlushMayAnswer, CreateMayAnswer};
 ghost use Rattle.logger_core.specs.Reopening.{IsLeft, IsReopened, SameFiles, ends_of};
 
@@ -23,7 +26,7 @@ use crate::ends::Ends;
 use crate::extending::extend;
 use crate::fault::LogFault;
 use crate::flushing::{flush_files, sync_volume};
-use crate::groups::{Group, Judged, hold_all, is_memory};
+use crate::groups::{Group, Judged, hold, hold_all, is_memory, let_go};
 use crate::logging::write_item;
 use crate::opening::ends_of;
 use crate::preparing::{Made, prepare};
@@ -199,6 +202,14 @@ impl Logger {
         self.ends.acknowledged
     }
 
+    /// Where the files end.
+    pub(crate) fn ends(&self) -> Ends
+        ensures value { result ≡ self.now.ends }
+        ensures small { AreSmall self.now.ends }
+    {
+        self.ends
+    }
+
     /// Makes every logged item sure, and then puts an entry behind the index where one is due: `Ok` acknowledges them all. No
     /// memory is taken.
     pub fn flush<D: Disk>(&mut self, disk: &mut D) -> Result<(), LogFault>
@@ -334,6 +345,70 @@ impl Logger {
             Err(_) => {
                 self.closed = true;
                 Err(LogFault::DiskFault)
+            }
+        }
+    }
+
+    /// Judges a result where the files will end once a group is written, and holds it in that. A refusal leaves all as it was.
+    pub(crate) fn hold(
+        &mut self,
+        alloc: Global,
+        group: &mut Group,
+        answer: &PmResult,
+        facts: &Facts,
+    ) -> Result<(), LogFault>
+        requires some { 0 < length answer.now.sets }
+        requires fits { AllByRecursion Fits answer.now.sets }
+        requires small { AreSmall group.old.planned }
+        requires few { counts_of group.old.runs < 4294967295 }
+        ensures held { OnOk result (IsHeldBy self.old self.new group.old group.new answer.now facts.now) }
+        ensures reachable { IsReachable self.old.ends self.old.limit }
+        ensures closed { self.old.closed ≡ true → result ≡ Err Closed }
+        ensures fault { IfErr result (HoldMayAnswer (record { kept = self.old; runs = group.old.runs; planned = group.old.planned }) answer.now facts.now) }
+        ensures still { OnErr result ((self.new ≡ self.old) × (group.new ≡ group.old)) }
+    {
+        let is_closed = self.closed;
+        if is_closed {
+            return Err(LogFault::Closed);
+        }
+        hold(&mut self.meta, alloc, group, self.limit, answer, facts)
+    }
+
+    /// Writes the runs of a group, which then holds none. Where the disk fails it keeps them, the logger is closed, and the error is how
+    /// many results the runs hold that were written whole.
+    pub(crate) fn write_group<D: Disk>(
+        &mut self,
+        disk: &mut D,
+        group: &mut Group,
+    ) -> Result<(), (u32, LogFault)>
+        requires bounded { AreRunsBounded self.old.ends group.old.runs }
+        requires few { counts_of group.old.runs < 4294967296 }
+        ensures ok { D.tells → (m : Meant) (limit : ℕ) (pending : Sequence Told) (now : Sequence Record) (after : Numbers) → IsAt m self.old.ends (D.held disk.old) → m.contents.label ≡ self.old.label → AreRuns m.contents.records self.old.ends limit group.old.runs pending now after → AreAllEnough pending
+            → OnOk result (RunWritten m self.old.ends self.new.ends limit group.old.runs pending now (D.held disk.new)) }
+        ensures any_moment { D.tells → (m : Meant) (limit : ℕ) (pending : Sequence Told) (now : Sequence Record) (after : Numbers) → IsAt m self.old.ends (D.held disk.old) → m.contents.label ≡ self.old.label → AreRuns m.contents.records self.old.ends limit group.old.runs pending now after → AreAllEnough pending
+            → LeavesOnly D.moment D.left_since disk.old disk.new (SurvivesWith m (samples_of pending)) }
+        ensures written { D.tells → (m : Meant) (limit : ℕ) (pending : Sequence Told) (now : Sequence Record) (after : Numbers) → IsAt m self.old.ends (D.held disk.old) → m.contents.label ≡ self.old.label → AreRuns m.contents.records self.old.ends limit group.old.runs pending now after → AreAllEnough pending
+            → IfErr result (λ e. e.1 ≡ DiskFault → AreWritten m self.old.ends.volume limit (take e.0 pending) (D.held disk.new)) }
+        ensures begins { (records : Sequence Record) (limit : ℕ) (pending : Sequence Told) (now : Sequence Record) (after : Numbers) → AreRuns records self.old.ends limit group.old.runs pending now after → IfErr result (λ e. e.1 ≡ DiskFault → BeginsRun records self.old.ends limit pending e.0) }
+        ensures emptied { OnOk result ((self.old.closed ≡ false) × (self.new ≡ ending_at (after_runs self.old.ends group.old.runs) self.old) × (group.new ≡ record { runs = []; planned = group.old.planned })) }
+        ensures closed { self.old.closed ≡ true → (result ≡ Err (0, Closed)) × (self.new ≡ self.old) × (group.new ≡ group.old) × (disk.new ≡ disk.old) }
+        ensures fault { IfErr result (λ e. GroupStops self.old self.new group.old group.new (D.faults disk.old) (D.faults disk.new) e.0 e.1) }
+        ensures nothing { group.old.runs ≡ [] → self.old.closed ≡ false → (result ≡ Ok tt) × (disk.new ≡ disk.old) }
+        ensures later { D.faults disk.old ≤ D.faults disk.new }
+        ensures quiet { OnOk result (D.faults disk.new ≡ D.faults disk.old) }
+    {
+        if self.closed {
+            return Err((0, LogFault::Closed));
+        }
+        match write_runs(disk, &self.label, &self.ends, group.runs.as_slice()) {
+            Ok(ends) => {
+                self.ends = ends;
+                let_go(&mut group.runs);
+                Ok(())
+            }
+            Err(k) => {
+                self.closed = true;
+                Err((k, LogFault::DiskFault))
             }
         }
     }

@@ -11,10 +11,13 @@ use Rattle.pcp_model.specs.LabelFields.{LabelFields}
 use Rattle.pcp_model.specs.Labels.{BeginsLabel}
 use Rattle.pcp_model.specs.Laws.{EndsWhole}
 use Rattle.pcp_model.proofs.OneReading.{one_reading}
+use Rattle.logger_core.specs.declared.ends.Ends.{Ends}
 use Rattle.logger_core.specs.Going.{IsFlushed, IsVolumeSure, all_acknowledged, counting_all}
+use Rattle.logger_core.specs.Holding.{HeldBack, IsHolding, written_back}
 use Rattle.logger_core.specs.Keeps.{Start}
-use Rattle.logger_core.specs.Meant.{Kept, IsLogger}
+use Rattle.logger_core.specs.Meant.{Kept, IsLogger, Meant}
 use Rattle.logger_core.specs.Steps.{FlushStep, with_entry}
+use Rattle.logger_core.proofs.Holds.{holds_nothing}
 use Rattle.logging_session.specs.Events.{Event, items_by}
 use Rattle.logging_session.specs.Keeping.{AreApart, IsGoing, meant_of}
 use Rattle.logging_session.specs.Written.{Written, Flushes}
@@ -69,58 +72,68 @@ contents_stay files new c d o is now step =
 
 -- ---- what is flushed goes on
 
-pub flush_goes : (left : Files) (limit : ℕ) (events : List Event) (w : Written) (kept now : Kept) (old held : Holdings) (g : IsGoing left limit events w kept old) (f : IsFlushed (meant_of g.first w g.acknowledged) kept now held)
-    → now.limit ≡ kept.limit → now.closed ≡ false → IsVolumeSure now.ends.volume held → (new : Written) × Flushes w new × IsGoing left limit (events ++ Event.flushed ∷ []) new now held
-flush_goes left limit events w kept now old held g f limit_same open_ sure =
-    let same : no_entries f.new.contents ≡ no_entries w.contents = contents_stay w.files f.new.files w.contents f.new.contents _ g.is.at.stands.keeps.is f.is.at.stands.keeps.is f.step.is in
-    let volumes : f.new.contents.volumes ≡ w.contents.volumes = ap (λ (c : ArchiveContents). c.volumes) same in
-    let last : EndsWhole f.new.files f.new.contents now.ends.volume = f.is.at.stands.keeps.last in
-    let was : EndsWhole w.files w.contents kept.ends.volume = g.is.at.stands.keeps.last in
-    let number : now.ends.volume ≡ w.volume = last_number last.before was.before now.ends.volume kept.ends.volume last.items was.items (sym last.are ∙ volumes ∙ was.are) ∙ g.volume in
-    let new : Written = record { files = f.new.files; contents = f.new.contents; volume = w.volume } in
-    let items : items_by (events ++ Event.flushed ∷ []) ≡ items_by events = items_more events Event.flushed ∙ append-nil (items_by events) in (
-      new,
-      record {
-        step = subst (λ (n : ℕ). FlushStep w.files w.contents n f.new.files) g.volume f.step;
-        is = f.is.at.stands.keeps.is;
-        records = ap (λ (c : ArchiveContents). c.records) same;
-        items = f.items_same;
-        volume = refl;
-        last = subst (λ (n : ℕ). EndsWhole f.new.files f.new.contents n) number last;
-      },
+module _ (left : Files) (limit : ℕ) (events : List Event) (w : Written) (b now : HeldBack) (old held : Holdings) (g : IsGoing left limit events w b old) (limit_same : now.kept.limit ≡ b.kept.limit) (open_ : now.kept.closed ≡ false) (none : now.runs ≡ []) (planned : now.planned ≡ now.kept.ends)
+    (sure : IsVolumeSure now.kept.ends.volume held) where
+  abbrev o : Meant
+  o = meant_of g.first w g.later
+
+  pub flush_goes : IsFlushed o (written_back b).kept now.kept held → (new : Written) × Flushes w new × IsGoing left limit (events ++ Event.flushed ∷ []) new now held
+  flush_goes f =
+      let same : no_entries f.new.contents ≡ no_entries w.contents = contents_stay w.files f.new.files w.contents f.new.contents _ g.is.stands.keeps.is f.is.at.stands.keeps.is f.step.is in
+      let volumes : f.new.contents.volumes ≡ w.contents.volumes = ap (λ (c : ArchiveContents). c.volumes) same in
+      let last : EndsWhole f.new.files f.new.contents now.kept.ends.volume = f.is.at.stands.keeps.last in
+      let was : EndsWhole w.files w.contents b.planned.volume = g.is.stands.keeps.last in
+      let number : now.kept.ends.volume ≡ w.volume = last_number last.before was.before now.kept.ends.volume b.planned.volume last.items was.items (sym last.are ∙ volumes ∙ was.are) ∙ g.volume in
+      let new : Written = record { files = f.new.files; contents = f.new.contents; volume = w.volume } in
+      let items : items_by (events ++ Event.flushed ∷ []) ≡ items_by events = items_more events Event.flushed ∙ append-nil (items_by events) in (
+        new,
+        record {
+          step = subst (λ (n : ℕ). FlushStep w.files w.contents n f.new.files) g.volume f.step;
+          is = f.is.at.stands.keeps.is;
+          records = ap (λ (c : ArchiveContents). c.records) same;
+          items = f.items_same;
+          volume = refl;
+          last = subst (λ (n : ℕ). EndsWhole f.new.files f.new.contents n) number last;
+        },
+        record {
+          label = g.label;
+          first = g.first;
+          opens = g.opens;
+          written = new;
+          acknowledged = f.new.acknowledged;
+          pending = [];
+          later = f.new.acknowledged;
+          is = subst (λ (s : Start). IsHolding (record { start = s; files = f.new.files; contents = f.new.contents; acknowledged = f.new.acknowledged }) now [] (record { start = s; files = f.new.files; contents = f.new.contents; acknowledged = f.new.acknowledged }) held)
+              f.started (holds_nothing f.new now held f.is none planned);
+          volume = ap (λ (e : Ends). e.volume) planned ∙ number;
+          open_ = open_;
+          limit_is = limit_same ∙ g.limit_is;
+          items_are = f.items_same ∙ g.items_are ∙ ap (λ (xs : List Item). items_of g.first.contents.volumes ++ xs) (sym items);
+          apart = subst (λ (xs : List Item). AreApart (items_of g.first.contents.volumes) xs) (sym items) g.apart;
+          enough = omega (arith, f.all, ap length g.items_are, length-append (items_of g.first.contents.volumes) (items_by events), sure_flushed events);
+          settled = λ nothing. is_settled f.new now.kept.ends.volume held f.is.at.stands sure;
+        },
+      )
+
+  -- ---- what is synced goes on
+
+  pub sync_goes : (l : IsLogger (all_acknowledged o) now.kept held) → now.kept ≡ counting_all (written_back b).kept → IsGoing left limit (events ++ Event.synced ∷ []) w now held
+  sync_goes l same =
+      let items : items_by (events ++ Event.synced ∷ []) ≡ items_by events = items_more events Event.synced ∙ append-nil (items_by events) in
       record {
         label = g.label;
         first = g.first;
         opens = g.opens;
-        acknowledged = f.new.acknowledged;
-        is = subst (λ (s : Start). IsLogger (record { start = s; files = f.new.files; contents = f.new.contents; acknowledged = f.new.acknowledged }) now held) f.started f.is;
-        volume = number;
+        written = w;
+        acknowledged = length (items_of w.contents.volumes);
+        pending = [];
+        later = length (items_of w.contents.volumes);
+        is = holds_nothing (all_acknowledged o) now held l none planned;
+        volume = ap (λ (e : Ends). e.volume) planned ∙ ap (λ (k : Kept). k.ends.volume) same ∙ g.volume;
         open_ = open_;
         limit_is = limit_same ∙ g.limit_is;
-        items_are = f.items_same ∙ g.items_are ∙ ap (λ (xs : List Item). items_of g.first.contents.volumes ++ xs) (sym items);
+        items_are = g.items_are ∙ ap (λ (xs : List Item). items_of g.first.contents.volumes ++ xs) (sym items);
         apart = subst (λ (xs : List Item). AreApart (items_of g.first.contents.volumes) xs) (sym items) g.apart;
-        enough = omega (arith, f.all, ap length g.items_are, length-append (items_of g.first.contents.volumes) (items_by events), sure_flushed events);
-        settled = λ none. is_settled f.new now.ends.volume held f.is.at.stands sure;
-      },
-    )
-
--- ---- what is synced goes on
-
-pub sync_goes : (left : Files) (limit : ℕ) (events : List Event) (w : Written) (kept now : Kept) (old held : Holdings) (g : IsGoing left limit events w kept old) → (l : IsLogger (all_acknowledged (meant_of g.first w g.acknowledged)) now held)
-    → now ≡ counting_all kept → IsVolumeSure now.ends.volume held → IsGoing left limit (events ++ Event.synced ∷ []) w now held
-sync_goes left limit events w kept now old held g l same sure =
-    let items : items_by (events ++ Event.synced ∷ []) ≡ items_by events = items_more events Event.synced ∙ append-nil (items_by events) in
-    record {
-      label = g.label;
-      first = g.first;
-      opens = g.opens;
-      acknowledged = length (items_of w.contents.volumes);
-      is = l;
-      volume = ap (λ (k : Kept). k.ends.volume) same ∙ g.volume;
-      open_ = ap (λ (k : Kept). k.closed) same ∙ g.open_;
-      limit_is = ap (λ (k : Kept). k.limit) same ∙ g.limit_is;
-      items_are = g.items_are ∙ ap (λ (xs : List Item). items_of g.first.contents.volumes ++ xs) (sym items);
-      apart = subst (λ (xs : List Item). AreApart (items_of g.first.contents.volumes) xs) (sym items) g.apart;
-      enough = omega (arith, ap length g.items_are, length-append (items_of g.first.contents.volumes) (items_by events), sure_synced events);
-      settled = λ none. is_settled (all_acknowledged (meant_of g.first w g.acknowledged)) now.ends.volume held l.at.stands sure;
-    }
+        enough = omega (arith, ap length g.items_are, length-append (items_of g.first.contents.volumes) (items_by events), sure_synced events);
+        settled = λ nothing. is_settled (all_acknowledged o) now.kept.ends.volume held l.at.stands sure;
+      }

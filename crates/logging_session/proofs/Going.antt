@@ -1,14 +1,14 @@
 -- The archive of a session that is open: what a logger goes on with, and what a crash leaves of it.
-use Rattle.std.proofs.Common.{◌≡◌, inl, inr, ℕ, ◌+◌, ◌-◌, ◌≤◌, false, List, [], ◌∷◌, ◌++◌, length, take, min, refl, sym, ap, ap₂, ◌∙◌, subst, arith, length-append}
+use Rattle.std.proofs.Common.{◌≡◌, ℕ, ◌+◌, ◌-◌, ◌≤◌, false, List, [], ◌∷◌, ◌++◌, length, take, min, refl, sym, ap, ap₂, ◌∙◌, subst, arith, length-append}
 use Rattle.std.specs.Prelude.{Contains}
 use Rattle.std.proofs.lemmas.List.Elements.{Contains-append_left}
-use Rattle.std.proofs.lemmas.List.{append_assoc, take-append-le, take_min}
+use Rattle.std.proofs.lemmas.List.{append_assoc, map-append, take-append-le, take_min}
 use Rattle.pcp_base.specs.declared.file.FileId.TheVariants.{Meta, Index, Volume}
 use Rattle.pcp_base.specs.declared.result.Item.{Item}
 use Rattle.pcp_base.specs.declared.result.Item.TheVariants.{Sample}
 use Rattle.pcp_model.specs.declared.records.MetaRecord.{MetaRecord}
 use Rattle.pcp_model.specs.Archive.{ArchiveReading, Reads, items_of, scan}
-use Rattle.pcp_model.specs.Disk.{CrashImage, Files, Holdings, contents_of}
+use Rattle.pcp_model.specs.Disk.{CrashImage, Files, Holdings, IsSettled, contents_of}
 use Rattle.pcp_model.specs.Frame.{frame}
 use Rattle.pcp_model.specs.LabelFields.{LabelFields}
 use Rattle.pcp_model.specs.Payload.{payload, payload_length}
@@ -23,18 +23,25 @@ use Rattle.logger_core.specs.declared.fault.LogFault.TheVariants.{Closed, Large,
 use Rattle.logger_core.specs.Keeps.{Start}
 use Rattle.logger_core.specs.Laws.{Survives}
 use Rattle.logger_core.specs.LogSteps.{base_files, base_number, crosses, with_run}
-use Rattle.logger_core.specs.Logging.{IsLoggable, IsLogged, IsRefused}
-use Rattle.logger_core.specs.Meant.{Meant, Kept, IsLogger, SurvivesOf, items_in}
+use Rattle.logger_core.specs.Grouping.{LogsAll, Told, samples_of}
+use Rattle.logger_core.specs.Held.{counts_of}
+use Rattle.logger_core.specs.Holding.{HeldBack, HoldsMore, IsHolding, written_back}
+use Rattle.logger_core.specs.Logging.{IsLoggable, IsRefused}
+use Rattle.logger_core.specs.Meant.{Meant, items_in}
 use Rattle.logger_core.specs.Recovering.{HoldsFirst}
 use Rattle.logger_core.specs.Reopening.{as_found}
-use Rattle.logger_core.proofs.Rests.{image_survives, survives_same}
+use Rattle.logger_core.specs.Runs.{SurvivesWith}
+use Rattle.logger_core.proofs.GroupLogged.{no_runs}
+use Rattle.logger_core.proofs.Grouped.{samples_many}
+use Rattle.logger_core.proofs.HeldRuns.{runs_count}
+use Rattle.logger_core.proofs.Rests.{few_acknowledged, image_survives, survives_same, survives_with}
 use Rattle.logging_session.specs.ComingBack.{ComesBack, ComesBackTo, start_of}
 use Rattle.logging_session.specs.Events.{Event, acknowledged_by, items_by}
-use Rattle.logging_session.specs.Keeping.{AreApart, AreWhole, IsGoing, meant_of}
-use Rattle.logging_session.specs.Written.{EndsAre, Logs, OpensFound, Refuses, Report, Takes, Written}
+use Rattle.logging_session.specs.Keeping.{AreApart, AreWhole, IsGoing, meant_of, told_of}
+use Rattle.logging_session.specs.Written.{EndsAre, Logs, OpensFound, Refuses, Report, Written}
 use Rattle.logging_session.proofs.ComeBack.{each_new, fewer, opened_comes, opened_items}
 use Rattle.logging_session.proofs.Events.{items_more, sure_logged}
-use Rattle.logging_session.proofs.Logged.{MaySurvive, is_apart}
+use Rattle.logging_session.proofs.Logged.{has_stamp}
 use Rattle.logging_session.proofs.WholeStays.{whole_stays}
 use Rattle.std.proofs.Math.Path.{fun_ext}
 
@@ -74,9 +81,18 @@ module _ (left : Files) (l : LabelFields) (first : Written) (opens : OpensFound 
       let v : Survives (as_found first.files first.contents).start (found ++ items) (length found + k) image = survives_same (as_found first.files first.contents).start (found ++ items) (found ++ items) a (length found + k) image refl w enough in
       opened_comes left files r reads recovered l first.files first.contents opens items k image v (each_new (as_found first.files first.contents).start items (length found + k) image v apart)
 
-module _ (left : Files) (limit : ℕ) (events : List Event) (w : Written) (kept : Kept) (held : Holdings) (g : IsGoing left limit events w kept held) where
+-- a list of no length has nothing
+none_pending : (pending : List Told) → length pending ≡ 0 → pending ≡ []
+none_pending [] none = refl
+none_pending (t ∷ pending) none = absurd (omega (arith, none))
+
+module _ (left : Files) (limit : ℕ) (events : List Event) (w : Written) (b : HeldBack) (held : Holdings) (g : IsGoing left limit events w b held) where
+  -- what is written, and what will be once all is
   abbrev m : Meant
-  m = meant_of g.first w g.acknowledged
+  m = meant_of g.first g.written g.acknowledged
+
+  abbrev o : Meant
+  o = meant_of g.first w g.later
 
   abbrev items : List Item
   items = items_by events
@@ -84,44 +100,56 @@ module _ (left : Files) (limit : ℕ) (events : List Event) (w : Written) (kept 
   abbrev sure : ℕ
   sure = acknowledged_by events
 
-  pub survivor_comes : (image : Files) → SurvivesOf m image → ComesBackTo items sure left image
+  -- what is held
+  abbrev more : List Item
+  more = samples_of (told_of g.pending)
+
+  all_items : items_in m ++ more ≡ items_of g.first.contents.volumes ++ items
+  all_items = sym g.is.items_are ∙ g.items_are
+
+  pub survivor_comes : (image : Files) → SurvivesWith m more image → ComesBackTo items sure left image
   survivor_comes image v =
-      survivors_come left g.label g.first g.opens items sure g.acknowledged image g.apart g.enough (survives_same m.start (items_in m) (items_of g.first.contents.volumes ++ items) g.acknowledged g.acknowledged image g.items_are v (omega arith))
+      survivors_come left g.label g.first g.opens items sure g.acknowledged image g.apart g.enough (survives_same m.start (items_in m ++ more) (items_of g.first.contents.volumes ++ items) g.acknowledged g.acknowledged image all_items v (omega arith))
+
+  -- of what is written the first ones survive
+  standing_survives : (image : Files) → CrashImage held image → SurvivesWith m more image
+  standing_survives image crash = survives_with m.start (items_in m) more g.acknowledged g.acknowledged image (image_survives m b.kept.ends.volume held g.is.at.stands image crash) (omega arith)
 
   pub going_comes : (image : Files) → CrashImage held image → ComesBackTo items sure left image
-  going_comes image crash = survivor_comes image (image_survives m kept.ends.volume held g.is.at.stands image crash)
+  going_comes image crash = survivor_comes image (standing_survives image crash)
 
   -- with as many as the logger counts as acknowledged
-  pub going_counts : (files image : Files) (r : ArchiveReading) → CrashImage held image → Reads files r → Recovers files r left → ComesBack (start_of files r left) (scan r ++ items) kept.ends.acknowledged image
+  pub going_counts : (files image : Files) (r : ArchiveReading) → CrashImage held image → Reads files r → Recovers files r left → ComesBack (start_of files r left) (scan r ++ items) b.kept.ends.acknowledged image
   going_counts files image r crash reads recovered =
       let found : List Item = items_of g.first.contents.volumes in
-      let more : ℕ = g.acknowledged - length found in
-      let v : Survives m.start (found ++ items) g.acknowledged image = survives_same m.start (items_in m) (found ++ items) g.acknowledged g.acknowledged image g.items_are (image_survives m kept.ends.volume held g.is.at.stands image crash) (omega arith) in
+      let others : ℕ = g.acknowledged - length found in
+      let v : Survives m.start (found ++ items) g.acknowledged image = survives_same m.start (items_in m ++ more) (found ++ items) g.acknowledged g.acknowledged image all_items (standing_survives image crash) (omega arith) in
       let same : found ≡ scan r = opened_items left files r reads recovered g.label g.first.files g.first.contents g.opens in
-      fewer (start_of files r left) (scan r ++ items) (length (scan r) + more) kept.ends.acknowledged image (omega (arith, g.is.at.ends.acknowledged_is, g.enough, ap length same))
-      (survivors_come left g.label g.first g.opens items more g.acknowledged image g.apart (omega (arith, g.enough)) v files r reads recovered)
+      fewer (start_of files r left) (scan r ++ items) (length (scan r) + others) b.kept.ends.acknowledged image (omega (arith, g.is.at.ends.acknowledged_is, g.enough, ap length same))
+      (survivors_come left g.label g.first g.opens items others g.acknowledged image g.apart (omega (arith, g.enough)) v files r reads recovered)
 
-  with_new : (x : Item) → items_in m ++ x ∷ [] ≡ items_of g.first.contents.volumes ++ (items ++ x ∷ [])
+  with_new : (x : Item) → items_in o ++ x ∷ [] ≡ items_of g.first.contents.volumes ++ (items ++ x ∷ [])
   with_new x = ap (λ (xs : List Item). xs ++ x ∷ []) g.items_are ∙ append_assoc (items_of g.first.contents.volumes) items (x ∷ [])
 
   -- what stood at the start stands in it
-  found_in : (x : Item) → (Contains (items_in m) x → ⊥) → Contains (items_of g.first.contents.volumes) x → ⊥
+  found_in : (x : Item) → (Contains (items_in o) x → ⊥) → Contains (items_of g.first.contents.volumes) x → ⊥
   found_in x other has = other (subst (λ (xs : List Item). Contains xs x) (sym g.items_are) (Contains-append_left (items_of g.first.contents.volumes) items x has))
 
-  apart_too : (x : Item) → (Contains (items_in m) x → ⊥) → AreApart (items_of g.first.contents.volumes) (items ++ x ∷ [])
+  apart_too : (x : Item) → (Contains (items_in o) x → ⊥) → AreApart (items_of g.first.contents.volumes) (items ++ x ∷ [])
   apart_too x other = each-append (λ (y : Item). Contains (items_of g.first.contents.volumes) y → ⊥) items (x ∷ []) g.apart (found_in x other, tt)
-
-  pub new_comes : (x : Item) (image : Files) → MaySurvive m x image → ComesBackTo (items ++ x ∷ []) sure left image
-  new_comes x image (inl v) = comes_more items (x ∷ []) sure left image (survivor_comes image v)
-  new_comes x image (inr (v, other)) =
-      survivors_come left g.label g.first g.opens (items ++ x ∷ []) sure g.acknowledged image (apart_too x other) g.enough
-      (survives_same m.start (items_in m ++ x ∷ []) (items_of g.first.contents.volumes ++ (items ++ x ∷ [])) g.acknowledged g.acknowledged image (with_new x) v (omega arith))
 
   -- a logger keeps its files whole
   pub going_whole : AreWhole (contents_of held)
   going_whole =
       let k = g.is.at.stands.keeps in
-      subst AreWhole (sym (fun_ext g.is.at.stands.written)) (ArchiveReading.archive w.contents, k.is, whole_stays w.files w.contents kept.ends.volume k.is k.last k.indexed.0 k.indexed.1 k.whole)
+      subst AreWhole (sym (fun_ext g.is.at.stands.written)) (ArchiveReading.archive g.written.contents, k.is, whole_stays g.written.files g.written.contents b.kept.ends.volume k.is k.last k.indexed.0 k.indexed.1 k.whole)
+
+  -- where nothing is held the disk holds what the events led to
+  pub going_files : counts_of b.runs ≡ 0 → contents_of held ≡ w.files
+  going_files none =
+      let all : told_of g.pending ≡ [] = none_pending (told_of g.pending) (sym (runs_count g.written.contents.records b.kept.ends b.kept.limit b.runs (told_of g.pending) b.kept.records b.planned g.is.runs) ∙ none) in
+      let l : LogsAll m b.kept.ends.volume b.kept.limit [] o b.planned.volume = subst (λ (ts : List Told). LogsAll m b.kept.ends.volume b.kept.limit ts o b.planned.volume) all g.is.all in
+      fun_ext g.is.at.stands.written ∙ sym (ap (λ (n : Meant). n.files) l.0)
 
 -- ---- what a logger keeps in numbers, but for what is acknowledged
 
@@ -151,77 +179,117 @@ module _ (records : List MetaRecord) (e : Ends) (n limit : ℕ) (answer : PmResu
   refused_still NoMemory r = r
   refused_still DiskFault r = r
 
--- ---- logging
+-- ---- holding
 
-module _ (left : Files) (limit : ℕ) (events : List Event) (r : Report) (w : Written) (kept : Kept) (old : Holdings) (g : IsGoing left limit events w kept old) where
+told_more : (reports : List Report) (r : Report) → told_of (reports ++ r ∷ []) ≡ told_of reports ++ (r.result, r.facts) ∷ []
+told_more reports r = map-append (λ (x : Report). (x.result, x.facts)) reports (r ∷ [])
+
+module _ (left : Files) (limit : ℕ) (events : List Event) (r : Report) (w : Written) (b : HeldBack) (held : Holdings) (g : IsGoing left limit events w b held) where
   abbrev a : Meant
-  a = meant_of g.first w g.acknowledged
+  a = meant_of g.first w g.later
 
   abbrev all_ends : Ends
-  all_ends = with_all kept.ends.logged kept.ends
+  all_ends = with_all b.planned.logged b.planned
 
   ends_are : EndsAre w all_ends
   ends_are = record {
-    are = record { meta = g.is.at.ends.meta; index = g.is.at.ends.index; length_is = g.is.at.ends.length_is; greatest = g.is.at.ends.greatest; entry = g.is.at.ends.entry; logged = g.is.at.ends.logged; acknowledged_is = g.is.at.ends.logged };
+    are = record { meta = g.is.ends.meta; index = g.is.ends.index; length_is = g.is.ends.length_is; greatest = g.is.ends.greatest; entry = g.is.ends.entry; logged = g.is.ends.logged; acknowledged_is = g.is.ends.logged };
     volume = g.volume;
   }
 
-  pub turned_refuses : (e : LogFault) → IsRefused kept.records kept.ends kept.limit r.result r.facts e → Refuses limit r w e
+  pub turned_refuses : (e : LogFault) → IsRefused b.kept.records b.planned b.kept.limit r.result r.facts e → Refuses limit r w e
   turned_refuses e refused = record {
     ends = all_ends;
     ends_are = ends_are;
-    refused = refused_still w.contents.records kept.ends kept.ends.logged limit r.result r.facts e
-        (subst (λ (rs : List MetaRecord). IsRefused rs kept.ends limit r.result r.facts e) (sym g.is.records_are) (subst (λ (n : ℕ). IsRefused kept.records kept.ends n r.result r.facts e) g.limit_is refused));
+    refused = refused_still w.contents.records b.planned b.planned.logged limit r.result r.facts e
+        (subst (λ (rs : List MetaRecord). IsRefused rs b.planned limit r.result r.facts e) (sym g.is.records_are) (subst (λ (n : ℕ). IsRefused b.kept.records b.planned n r.result r.facts e) g.limit_is refused));
   }
 
-  loggable_here : IsLoggable kept.records kept.ends kept.limit r.result r.facts → IsLoggable w.contents.records all_ends limit r.result r.facts
+  loggable_here : IsLoggable b.kept.records b.planned b.kept.limit r.result r.facts → IsLoggable w.contents.records all_ends limit r.result r.facts
   loggable_here may =
-      loggable_still w.contents.records kept.ends kept.ends.logged limit r.result r.facts
-      (subst (λ (rs : List MetaRecord). IsLoggable rs kept.ends limit r.result r.facts) (sym g.is.records_are) (subst (λ (n : ℕ). IsLoggable kept.records kept.ends n r.result r.facts) g.limit_is may))
+      loggable_still w.contents.records b.planned b.planned.logged limit r.result r.facts
+      (subst (λ (rs : List MetaRecord). IsLoggable rs b.planned limit r.result r.facts) (sym g.is.records_are) (subst (λ (n : ℕ). IsLoggable b.kept.records b.planned n r.result r.facts) g.limit_is may))
 
-  pub would_take : IsLoggable kept.records kept.ends kept.limit r.result r.facts → Takes limit r w
-  would_take may = record { ends = all_ends; ends_are = ends_are; loggable = loggable_here may }
+  is_new : IsLoggable b.kept.records b.planned b.kept.limit r.result r.facts → Contains (items_in a) (Sample r.result) → ⊥
+  is_new may = has_stamp w.contents b.planned.greatest (Sample r.result) g.is.ends.greatest may.later
 
-  is_new : IsLoggable kept.records kept.ends kept.limit r.result r.facts → Contains (items_in a) (Sample r.result) → ⊥
-  is_new may = is_apart a kept r.result r.facts old g.is may
-
-  pub log_goes : (now : Kept) (held : Holdings) → IsLoggable kept.records kept.ends kept.limit r.result r.facts → (log : IsLogged a kept now r.result r.facts held) → now.limit ≡ kept.limit → now.closed ≡ false
+  pub hold_goes : (now : HeldBack) → IsLoggable b.kept.records b.planned b.kept.limit r.result r.facts → HoldsMore (meant_of g.first g.written g.acknowledged) b now (told_of g.pending) r.result r.facts a held → now.kept.limit ≡ b.kept.limit → now.kept.closed ≡ false
       → (new : Written) × Logs limit r w new × IsGoing left limit (events ++ Event.logged r ∷ []) new now held
-  log_goes now held may log limit_same open_ =
-      let new : Written = record { files = log.new.files; contents = log.new.contents; volume = now.ends.volume } in
-      let more : items_by (events ++ Event.logged r ∷ []) ≡ items_by events ++ Sample r.result ∷ [] = items_more events (Event.logged r) in (
+  hold_goes now may h limit_same open_ =
+      let new : Written = record { files = h.next.files; contents = h.next.contents; volume = now.planned.volume } in
+      let more : items_by (events ++ Event.logged r ∷ []) ≡ items_by events ++ Sample r.result ∷ [] = items_more events (Event.logged r) in
+      let step = h.one.step in
+      let stands = h.is.stands.keeps in (
         new,
         record {
           ends = all_ends;
           ends_are = ends_are;
           loggable = loggable_here may;
           step = record {
-            greatest = log.step.greatest;
-            is_greatest = log.step.is_greatest;
-            missing = log.step.missing;
-            needed = log.step.needed;
-            crossing = log.step.crossing;
-            crosses_is = log.step.crosses_is ∙ ap₂ (λ (l n : ℕ). crosses l (length (w.files (Volume n))) (payload_length r.result + 8)) g.limit_is g.volume;
-            is = λ file. log.step.is file
-                ∙ ap (λ (n : ℕ). with_run (base_number log.step.crossing n) (framed_records log.step.missing) (frame (payload r.result)) (base_files log.step.crossing w.files w.contents n log.step.greatest) file) g.volume;
+            greatest = step.greatest;
+            is_greatest = step.is_greatest;
+            missing = step.missing;
+            needed = step.needed;
+            crossing = step.crossing;
+            crosses_is = step.crosses_is ∙ ap₂ (λ (l n : ℕ). crosses l (length (w.files (Volume n))) (payload_length r.result + 8)) g.limit_is g.volume;
+            is = λ file. step.is file
+                ∙ ap (λ (n : ℕ). with_run (base_number step.crossing n) (framed_records step.missing) (frame (payload r.result)) (base_files step.crossing w.files w.contents n step.greatest) file) g.volume;
           };
-          is = log.is.at.stands.keeps.is;
-          records = log.said;
-          items = log.items_are;
-          last = log.is.at.stands.keeps.last;
+          is = stands.is;
+          records = h.one.longer.records;
+          items = h.one.longer.items;
+          last = stands.last;
         },
         record {
           label = g.label;
           first = g.first;
           opens = g.opens;
-          acknowledged = log.new.acknowledged;
-          is = subst (λ (s : Start). IsLogger (record { start = s; files = log.new.files; contents = log.new.contents; acknowledged = log.new.acknowledged }) now held) log.started log.is;
+          written = g.written;
+          acknowledged = g.acknowledged;
+          pending = g.pending ++ r ∷ [];
+          later = h.next.acknowledged;
+          is = subst (λ (ts : List Told). IsHolding (meant_of g.first g.written g.acknowledged) now ts (meant_of g.first new h.next.acknowledged) held) (sym (told_more g.pending r))
+              (subst (λ (s : Start). IsHolding (meant_of g.first g.written g.acknowledged) now (told_of g.pending ++ (r.result, r.facts) ∷ []) (record { start = s; files = h.next.files; contents = h.next.contents; acknowledged = h.next.acknowledged }) held)
+              h.one.started h.is);
           volume = refl;
           open_ = open_;
           limit_is = limit_same ∙ g.limit_is;
-          items_are = log.items_are ∙ with_new left limit events w kept old g (Sample r.result) ∙ ap (λ (xs : List Item). items_of g.first.contents.volumes ++ xs) (sym more);
-          apart = subst (λ (xs : List Item). AreApart (items_of g.first.contents.volumes) xs) (sym more) (apart_too left limit events w kept old g (Sample r.result) (is_new may));
-          enough = omega (arith, g.enough, log.still, sure_logged events r);
+          items_are = h.one.longer.items ∙ with_new left limit events w b held g (Sample r.result) ∙ ap (λ (xs : List Item). items_of g.first.contents.volumes ++ xs) (sym more);
+          apart = subst (λ (xs : List Item). AreApart (items_of g.first.contents.volumes) xs) (sym more) (apart_too left limit events w b held g (Sample r.result) (is_new may));
+          enough = omega (arith, g.enough, sure_logged events r);
           settled = λ none. absurd (omega (arith, ap length none, ap length more, length-append (items_by events) (Sample r.result ∷ [])));
         },
       )
+
+-- ---- writing
+
+module _ (left : Files) (limit : ℕ) (events : List Event) (w : Written) (b : HeldBack) (old : Holdings) (g : IsGoing left limit events w b old) where
+  abbrev n : Meant
+  n = meant_of g.first g.written g.acknowledged
+
+  -- where nothing was logged nothing is held
+  pub none_held : items_by events ≡ [] → b.runs ≡ []
+  none_held none =
+      let found : List Item = items_of g.first.contents.volumes in
+      let few : g.acknowledged ≤ length (items_in n) = few_acknowledged n b.kept.ends.volume old g.is.at.stands in
+      let pending : length (told_of g.pending) ≡ 0 = omega (arith, few, g.enough, samples_many (told_of g.pending), ap length (sym g.is.items_are ∙ g.items_are), length-append (items_in n) (samples_of (told_of g.pending)), length-append found (items_by events), ap length none) in
+      no_runs g.written.contents.records b.kept.ends b.kept.limit b.runs (told_of g.pending) b.kept.records b.planned g.is.runs (none_pending (told_of g.pending) pending)
+
+  pub write_goes : (now : HeldBack) (held : Holdings) → IsHolding (meant_of g.first w g.later) now [] (meant_of g.first w g.later) held → now ≡ written_back b → (b.runs ≡ [] → held ≡ old) → IsGoing left limit events w now held
+  write_goes now held is same idle = record {
+    label = g.label;
+    first = g.first;
+    opens = g.opens;
+    written = w;
+    acknowledged = g.later;
+    pending = [];
+    later = g.later;
+    is = is;
+    volume = ap (λ (x : HeldBack). x.planned.volume) same ∙ g.volume;
+    open_ = ap (λ (x : HeldBack). x.kept.closed) same ∙ g.open_;
+    limit_is = ap (λ (x : HeldBack). x.kept.limit) same ∙ g.limit_is;
+    items_are = g.items_are;
+    apart = g.apart;
+    enough = omega (arith, g.enough, g.is.still);
+    settled = λ none. subst IsSettled (sym (idle (none_held none))) (g.settled none);
+  }

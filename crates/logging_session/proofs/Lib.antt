@@ -12,3 +12,4 @@ pub mod Placed
 pub mod Recovering
 pub mod Sessions
 pub mod WholeStays
+pub mod Writes

@@ -1,19 +1,19 @@
 -- What holds of a session by where its archive stands, over any disk.
-use Rattle.std.proofs.Common.{◌≡◌, ◌≢◌, ◌⊎◌, inl, inr, ⊎_elim, ℕ, ◌≤◌, false, refl, sym, subst, arith}
+use Rattle.std.proofs.Common.{◌≡◌, ◌≢◌, ◌⊎◌, inl, inr, ⊎_elim, ℕ, ◌+◌, ◌<◌, ◌≤◌, min, false, [], refl, sym, ap, subst, arith}
 use Rattle.pcp_base.specs.declared.result.PmResult.{PmResult}
 use Rattle.pcp_outside.specs.Causes.{Rose}
 use Rattle.archive_meta.specs.declared.facts.Facts.{Facts}
 use Rattle.archive_recovery.specs.declared.outcome.Archive.{Archive}
 use Rattle.logger_core.specs.declared.fault.LogFault.{LogFault}
 use Rattle.logger_core.specs.declared.fault.LogFault.TheVariants.{Closed, Large, NotLater, Changed, Full, NoMemory, DiskFault}
-use Rattle.logger_core.specs.Logging.{LogMayAnswer as LoggerMayLog}
-use Rattle.logger_core.specs.Meant.{Kept}
-use Rattle.logger_core.specs.Refusals.{CreateMayAnswer, FlushMayAnswer as LoggerMayFlush}
+use Rattle.logger_core.specs.Held.{counts_of}
+use Rattle.logger_core.specs.Holding.{HeldBack, HoldMayAnswer}
+use Rattle.logger_core.specs.Refusals.{CreateMayAnswer}
 use Rattle.logging_session.specs.declared.place.Place.{Place}
 use Rattle.logging_session.specs.declared.place.Place.TheVariants.{Found, Open, Lost, Failed}
-use Rattle.logging_session.specs.Answers.{FlushMayAnswer, IsFor, MayTake, OpenMayAnswer, TakeMayAnswer, WantsMemory}
+use Rattle.logging_session.specs.Answers.{IsFor, MayTake, OpenMayAnswer, TakeMayAnswer, WantsMemory}
 use Rattle.logging_session.specs.Written.{Report}
-use Rattle.logging_session.specs.Keeping.{Carried, HasFailed, HasFound, HasLogger, HasLost, IsClosed, IsFailed, IsFound, IsLost, IsOpen, MayLog}
+use Rattle.logging_session.specs.Keeping.{Carried, HasFailed, HasFound, HasLogger, HasLost, IsClosed, IsFailed, IsFound, IsLost, IsOpen, MayLog, held_in}
 use Rattle.logging_session.proofs.Logged.{not_closed}
 
 pub neither : {A : Type 0} → ⊥ ⊎ ⊥ → A
@@ -29,7 +29,7 @@ module _ (s : Carried) (archive : Archive) (is : s.place ≡ Found archive) wher
   pub found_not_closed : {A : Type 0} → IsClosed s → A
   found_not_closed closed = neither (subst (λ (p : Place). HasLost p ⊎ HasFailed p) is closed)
 
-module _ (s : Carried) (kept : Kept) (is : s.place ≡ Open kept) where
+module _ (s : Carried) (b : HeldBack) (is : s.place ≡ Open b) where
   pub open_is : IsOpen s
   open_is = subst HasLogger (sym is) tt
 
@@ -39,7 +39,7 @@ module _ (s : Carried) (kept : Kept) (is : s.place ≡ Open kept) where
   pub open_not_closed : {A : Type 0} → IsClosed s → A
   open_not_closed closed = neither (subst (λ (p : Place). HasLost p ⊎ HasFailed p) is closed)
 
-  pub open_may_log : MayLog s.limit s.place → (kept.closed ≡ false) × (kept.limit ≡ s.limit)
+  pub open_may_log : MayLog s.limit s.place → (b.kept.closed ≡ false) × (b.kept.limit ≡ s.limit)
   open_may_log may = subst (MayLog s.limit) is may
 
 module _ (s : Carried) (is : s.place ≡ Lost) where
@@ -55,7 +55,7 @@ module _ (s : Carried) (is : s.place ≡ Lost) where
   pub lost_not_open : {A : Type 0} → IsOpen s → A
   lost_not_open open_ = absurd (subst HasLogger is open_)
 
-module _ (s : Carried) (is : s.place ≡ Failed) where
+module _ (s : Carried) (lost : ℕ) (is : s.place ≡ Failed lost) where
   pub failed_is : IsFailed s
   failed_is = subst HasFailed (sym is) tt
 
@@ -71,39 +71,29 @@ module _ (s : Carried) (is : s.place ≡ Failed) where
 -- an open session isn't closed
 pub open_or_closed : {A : Type 0} (p : Place) → HasLogger p → HasLost p ⊎ HasFailed p → A
 open_or_closed (Found archive) open_ closed = absurd open_
-open_or_closed (Open kept) open_ closed = neither closed
+open_or_closed (Open b) open_ closed = neither closed
 open_or_closed Lost open_ closed = absurd open_
-open_or_closed Failed open_ closed = absurd open_
+open_or_closed (Failed lost) open_ closed = absurd open_
+
+pub closed_not_working : {A : Type 0} (p : Place) → HasLost p ⊎ HasFailed p → HasFound p ⊎ HasLogger p → A
+closed_not_working (Found archive) closed working = neither closed
+closed_not_working (Open b) closed working = neither closed
+closed_not_working Lost closed working = neither working
+closed_not_working (Failed lost) closed working = neither working
 
 pub working_not_failed : (p : Place) → HasFound p ⊎ HasLogger p → HasFailed p → ⊥
 working_not_failed (Found archive) working failed = failed
-working_not_failed (Open kept) working failed = failed
+working_not_failed (Open b) working failed = failed
 working_not_failed Lost working failed = failed
-working_not_failed Failed working failed = neither working
+working_not_failed (Failed lost) working failed = neither working
 
 -- ---- what a logger answers
-
--- a logger that isn't closed flushes, or the disk fails
-pub flush_rose : (old new : Kept) (before after : ℕ) (e : LogFault) → old.closed ≡ false → LoggerMayFlush old new before after e → (e ≡ DiskFault) × Rose before after
-flush_rose old new before after Closed open_ may = not_closed old.closed may.0 open_
-flush_rose old new before after (Large bytes) open_ may = absurd may
-flush_rose old new before after (NotLater last) open_ may = absurd may
-flush_rose old new before after (Changed pmid) open_ may = absurd may
-flush_rose old new before after (Full file bytes) open_ may = absurd may
-flush_rose old new before after NoMemory open_ may = absurd may
-flush_rose old new before after DiskFault open_ may = (refl, may.2)
-
--- which refusal then comes of the session
-pub flush_answers : (old new : Carried) (kept now : Kept) (before after : ℕ) (e : LogFault) → IsOpen old → IsFailed new → kept.closed ≡ false → LoggerMayFlush kept now before after e → FlushMayAnswer old new before after e
-flush_answers old new kept now before after e open_ failed usable may =
-    let c : (e ≡ DiskFault) × Rose before after = flush_rose kept now before after e usable may in
-    subst (λ (f : LogFault). FlushMayAnswer old new before after f) (sym c.0) (open_, failed, c.1)
 
 pub lost_answers : (old lost : Carried) (before after : ℕ) (e : LogFault) → e ≡ NoMemory → IsFound old → IsLost lost → WantsMemory old.place → OpenMayAnswer old lost before after e
 lost_answers old lost before after e is found now why = subst (λ (f : LogFault). OpenMayAnswer old lost before after f) (sym is) (found, now, why)
 
 -- a creation is refused for want of memory, or by the disk
-pub open_answers : (old failed : Carried) (before after : ℕ) (e : LogFault) → IsFound old → IsFailed failed → CreateMayAnswer before after e → e ≢ NoMemory → OpenMayAnswer old failed before after e
+pub open_answers : (old failed : Carried) (before after : ℕ) (e : LogFault) → IsFound old → failed.place ≡ Failed 0 → CreateMayAnswer before after e → e ≢ NoMemory → OpenMayAnswer old failed before after e
 open_answers old failed before after Closed found is may other = absurd may
 open_answers old failed before after (Large bytes) found is may other = absurd may
 open_answers old failed before after (NotLater last) found is may other = absurd may
@@ -122,34 +112,37 @@ open_rose before after (Full file bytes) may other also = absurd may
 open_rose before after NoMemory may other also = absurd (other refl)
 open_rose before after DiskFault may other also = absurd (also refl)
 
--- what an open archive answers of a result
-pub take_answers : (old new : Carried) (kept now : Kept) (answer : PmResult) (facts : Facts) (before after : ℕ) (e : LogFault) → kept.closed ≡ false → IsFailed new → LoggerMayLog kept now answer facts before after e → e ≡ DiskFault → TakeMayAnswer (record { result = answer; facts = facts }) old new before after e
-take_answers old new kept now answer facts before after Closed usable failed may is = absurd (cc)
-take_answers old new kept now answer facts before after (Large bytes) usable failed may is = absurd (cc)
-take_answers old new kept now answer facts before after (NotLater last) usable failed may is = absurd (cc)
-take_answers old new kept now answer facts before after (Changed pmid) usable failed may is = absurd (cc)
-take_answers old new kept now answer facts before after (Full file bytes) usable failed may is = absurd (cc)
-take_answers old new kept now answer facts before after NoMemory usable failed may is = absurd (cc)
-take_answers old new kept now answer facts before after DiskFault usable failed may is = (failed, may.3)
+-- why an open archive doesn't hold a result
+pub hold_answers : (old new : Carried) (b : HeldBack) (answer : PmResult) (facts : Facts) (e : LogFault) → b.kept.closed ≡ false → HoldMayAnswer b answer facts e → new ≡ old → old.place ≡ Open b → TakeMayAnswer (record { result = answer; facts = facts }) old new e
+hold_answers old new b answer facts Closed usable may same was = not_closed b.kept.closed may usable
+hold_answers old new b answer facts (Large bytes) usable may same was = (same, subst (λ (p : Place). IsFor p (record { result = answer; facts = facts }) (Large bytes)) (sym was) may.1)
+hold_answers old new b answer facts (NotLater last) usable may same was = (same, subst (λ (p : Place). IsFor p (record { result = answer; facts = facts }) (NotLater last)) (sym was) may.1)
+hold_answers old new b answer facts (Changed pmid) usable may same was = (same, subst (λ (p : Place). IsFor p (record { result = answer; facts = facts }) (Changed pmid)) (sym was) may.1)
+hold_answers old new b answer facts (Full file bytes) usable may same was = (same, subst (λ (p : Place). IsFor p (record { result = answer; facts = facts }) (Full file bytes)) (sym was) may.1)
+hold_answers old new b answer facts NoMemory usable may same was = same
+hold_answers old new b answer facts DiskFault usable may same was = absurd may.1
 
--- but for a fault of the disk the logger is as it was
-pub take_same : (kept now : Kept) (answer : PmResult) (facts : Facts) (before after : ℕ) (e : LogFault) → kept.closed ≡ false → LoggerMayLog kept now answer facts before after e → e ≢ DiskFault → now ≡ kept
-take_same kept now answer facts before after Closed usable may other = may.1
-take_same kept now answer facts before after (Large bytes) usable may other = may.1
-take_same kept now answer facts before after (NotLater last) usable may other = may.1
-take_same kept now answer facts before after (Changed pmid) usable may other = may.1
-take_same kept now answer facts before after (Full file bytes) usable may other = may.1
-take_same kept now answer facts before after NoMemory usable may other = may.1
-take_same kept now answer facts before after DiskFault usable may other = absurd (other refl)
+-- ---- how many are held and lost
 
-pub take_stays : (old new : Carried) (kept now : Kept) (answer : PmResult) (facts : Facts) (before after : ℕ) (e : LogFault) → kept.closed ≡ false → LoggerMayLog kept now answer facts before after e → e ≢ DiskFault → new ≡ old → old.place ≡ Open kept → TakeMayAnswer (record { result = answer; facts = facts }) old new before after e
-take_stays old new kept now answer facts before after Closed usable may other same was = not_closed kept.closed may.0 usable
-take_stays old new kept now answer facts before after (Large bytes) usable may other same was = (same, subst (λ (p : Place). IsFor p (record { result = answer; facts = facts }) (Large bytes)) (sym was) may.2)
-take_stays old new kept now answer facts before after (NotLater last) usable may other same was = (same, subst (λ (p : Place). IsFor p (record { result = answer; facts = facts }) (NotLater last)) (sym was) may.2)
-take_stays old new kept now answer facts before after (Changed pmid) usable may other same was = (same, subst (λ (p : Place). IsFor p (record { result = answer; facts = facts }) (Changed pmid)) (sym was) may.2)
-take_stays old new kept now answer facts before after (Full file bytes) usable may other same was = (same, subst (λ (p : Place). IsFor p (record { result = answer; facts = facts }) (Full file bytes)) (sym was) may.2)
-take_stays old new kept now answer facts before after NoMemory usable may other same was = same
-take_stays old new kept now answer facts before after DiskFault usable may other same was = absurd (other refl)
+pub none_lost : (n : ℕ) → 0 ≤ n
+none_lost n = omega arith
+
+pub nothing_held : (b : HeldBack) (n : ℕ) → b.runs ≡ [] → counts_of b.runs ≤ n
+nothing_held b n none = omega (arith, ap counts_of none)
+
+module _ (s : Carried) (b : HeldBack) (is : s.place ≡ Open b) (lost : ℕ) (few : lost ≤ counts_of b.runs) where
+  pub fewer_than : lost ≤ held_in s.place
+  fewer_than = omega (arith, few, ap held_in is)
+
+  pub few_lost : held_in s.place ≤ s.logged → lost ≤ s.logged
+  few_lost held = omega (arith, fewer_than, held)
+
+pub one_more_held : (s : Carried) (b now : HeldBack) (p : Place) (n : ℕ) → s.place ≡ Open b → p ≡ Open b → held_in p < 64 → counts_of now.runs ≡ counts_of b.runs + 1 → held_in s.place ≤ s.logged → n ≡ min (s.logged + 1) 18446744073709551615 → counts_of now.runs ≤ n
+one_more_held s b now p n is was room more held count = omega (arith, ap held_in is, ap held_in was, room, more, held, count)
+
+-- where nothing was logged nothing is held
+pub nothing_logged : (p q : Place) (n : ℕ) → held_in p ≤ n → n ≡ 0 → p ≡ q → held_in q ≡ 0
+nothing_logged p q n few none same = omega (arith, few, none, ap held_in same)
 
 pub same_count : (n : ℕ) → n ≤ n
 same_count n = omega arith
@@ -157,6 +150,6 @@ same_count n = omega arith
 -- what an open session took it could take before, where it was open before
 pub taken_before : (p q : Place) (r : Report) → (HasLogger p → q ≡ p) → MayTake q r → MayTake p r
 taken_before (Found archive) q r same may = tt
-taken_before (Open kept) q r same may = subst (λ (t : Place). MayTake t r) (same tt) may
+taken_before (Open b) q r same may = subst (λ (t : Place). MayTake t r) (same tt) may
 taken_before Lost q r same may = tt
-taken_before Failed q r same may = tt
+taken_before (Failed lost) q r same may = tt

@@ -1,5 +1,5 @@
 -- What the calls of a session answer, what stands after each answer, and what a crash leaves meanwhile.
-use Rattle.std.specs.Prelude.{◌≡◌, ◌⊎◌, ℕ, ◌+◌, Bool, true, false, List, ◌++◌}
+use Rattle.std.specs.Prelude.{◌≡◌, ◌⊎◌, ℕ, ◌+◌, ◌≤◌, Bool, true, false, List}
 use Rattle.pcp_base.specs.declared.result.Item.{Item}
 use Rattle.pcp_model.specs.Disk.{Files, Holdings}
 use Rattle.pcp_model.specs.Payload.{payload_length}
@@ -93,7 +93,8 @@ FlushMayAnswer old new before after fault = ⊥
 
 -- ---- the step of a flush and of a sync
 
--- A logger made all sure: with the entry that is then due, or with none, where nothing of it changes but how many are acknowledged.
+-- A logger that has written all made it sure: with the entry that is then due, or with none, where nothing of it changes but how many are
+-- acknowledged.
 abbrev pub IsMadeSure : Bool → Meant → Kept → Kept → Holdings → Type 0
 IsMadeSure true m old now held = IsFlushed m old now held
 IsMadeSure false m old now held = IsLogger (all_acknowledged m) now held × (now ≡ counting_all old)

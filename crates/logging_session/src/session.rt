@@ -86,6 +86,7 @@ impl Session {
         ensures refused { D.tells → (left : AllFiles) (events : Sequence Event) → Keeps left events self.old (D.held disk.old)
             → IfErr result (λ e. e ≢ DiskFault → Keeps left events self.new (D.held disk.new)) }
         ensures counts { D.tells → (left : AllFiles) (events : Sequence Event) → Keeps left events self.old (D.held disk.old) → OnOk result (CountsAll self.new.place) }
+        ensures held { OnOk result (held_in self.new.place ≡ held_in self.old.place) }
         ensures labelled { IsLabelled self.old → disk.new ≡ disk.old }
         ensures untouched { IfErr result (λ e. e ≢ DiskFault → disk.new ≡ disk.old) }
         ensures open_ { OnOk result (IsOpen self.new) }
@@ -129,6 +130,7 @@ impl Session {
         ensures closed { IsClosed self.old → (result ≡ Err Closed) × (self.new ≡ self.old) × (disk.new ≡ disk.old) }
         ensures stays { IsOpen self.old → (result ≡ Ok tt) × (self.new ≡ self.old) × (disk.new ≡ disk.old) }
         ensures counts { IsFound self.old → D.tells → (left : AllFiles) (events : Sequence Event) → Keeps left events self.old (D.held disk.old) → OnOk result (CountsAll self.new.place) }
+        ensures held { OnOk result (held_in self.new.place ≡ held_in self.old.place) }
         ensures labelled { IsLabelled self.old → disk.new ≡ disk.old }
         ensures untouched { IfErr result (λ e. e ≢ DiskFault → disk.new ≡ disk.old) }
         ensures open_ { OnOk result (IsWorking self.old × IsOpen self.new) }
@@ -201,9 +203,13 @@ impl Session {
             // It is open.
             unreachable!()
         };
-        batch.hold(alloc, answer, facts)?;
-        self.logged = self.logged.saturating_add(1);
-        Ok(())
+        match batch.hold(alloc, answer, facts) {
+            Ok(()) => {
+                self.logged = self.logged.saturating_add(1);
+                Ok(())
+            }
+            Err(fault) => Err(fault),
+        }
     }
 
     /// Logs a result: the first one opens the archive. It is judged where those before it leave the files, and held to be written; nothing is
@@ -290,8 +296,8 @@ impl Session {
         }
     }
 
-    /// Writes all that is held, makes all that was logged sure, and where that is wanted puts an entry behind the index where one is due: `Ok` acknowledges it. Before
-    /// the archive is open nothing is done.
+    /// Writes all that is held, makes all that was logged sure, and where that is wanted puts an entry behind the index where one is due: `Ok`
+    /// acknowledges it. Before the archive is open nothing is done.
     fn make_sure<D: Disk>(&mut self, disk: &mut D, puts_entry: bool) -> Result<(), LogFault>
         ensures done { D.tells → (left : AllFiles) (events : Sequence Event) → Keeps left events self.old (D.held disk.old) → OnOk result (Keeps left (behind events (sure_event puts_entry)) self.new (D.held disk.new)) }
         ensures settled { D.tells → (left : AllFiles) (events : Sequence Event) → Keeps left events self.old (D.held disk.old) → OnOk result (IsSettled (D.held disk.new)) }
@@ -323,8 +329,8 @@ impl Session {
         }
     }
 
-    /// Writes all that is held, makes all that was logged sure, and puts an entry behind the index where one is due: `Ok` acknowledges it. Before the archive is open
-    /// nothing is done.
+    /// Writes all that is held, makes all that was logged sure, and puts an entry behind the index where one is due: `Ok` acknowledges it. Before
+    /// the archive is open nothing is done.
     pub fn flush<D: Disk>(&mut self, disk: &mut D) -> Result<(), LogFault>
         ensures done { D.tells → (left : AllFiles) (events : Sequence Event) → Keeps left events self.old (D.held disk.old) → OnOk result (Keeps left (behind events Event.flushed) self.new (D.held disk.new)) }
         ensures settled { D.tells → (left : AllFiles) (events : Sequence Event) → Keeps left events self.old (D.held disk.old) → OnOk result (IsSettled (D.held disk.new)) }
@@ -348,7 +354,8 @@ impl Session {
         self.make_sure(disk, true)
     }
 
-    /// Writes all that is held, makes all that was logged sure, and puts no entry behind the index: `Ok` acknowledges it. Before the archive is open nothing is done.
+    /// Writes all that is held, makes all that was logged sure, and puts no entry behind the index: `Ok` acknowledges it. Before the archive is
+    /// open nothing is done.
     pub fn sync<D: Disk>(&mut self, disk: &mut D) -> Result<(), LogFault>
         ensures done { D.tells → (left : AllFiles) (events : Sequence Event) → Keeps left events self.old (D.held disk.old) → OnOk result (Keeps left (behind events Event.synced) self.new (D.held disk.new)) }
         ensures settled { D.tells → (left : AllFiles) (events : Sequence Event) → Keeps left events self.old (D.held disk.old) → OnOk result (IsSettled (D.held disk.new)) }

@@ -4,7 +4,7 @@ use Rattle.std.proofs.lemmas.List.{nil_from_length}
 use Rattle.logger_core.specs.declared.ends.Ends.{Ends}
 use Rattle.logger_core.specs.Going.{AreSmall}
 use Rattle.logger_core.specs.Grouping.{BeginsRun, samples_of}
-use Rattle.logger_core.specs.Held.{AreRuns, AreRunsBounded, after_run, counts_of}
+use Rattle.logger_core.specs.Held.{AreRuns, AreRunsBounded, RunWritten, after_run, counts_of}
 use Rattle.logger_core.specs.Runs.{SurvivesWith}
 use Rattle.logger_core.proofs.Calls.{no_call, run_as, run_then}
 use Rattle.logger_core.proofs.Loggable.{survives_more}
@@ -31,7 +31,7 @@ returns-in_default-clause-ok g t c = λ tells m limit group now after at same al
     let e = c.args.ends.now in
     let old = d.held c.args.disk.now in
     let none = nil_from_length c.args.runs.now c.in_default.ensures.cases in
-    nothing_written m e limit group now after old at (subst (λ rs. AreRuns m.contents.records e limit rs group now after) none all)
+    subst (λ rs. RunWritten m e e limit rs group now old) (sym none) (nothing_written m e limit group now after old at (subst (λ rs. AreRuns m.contents.records e limit rs group now after) none all))
 
 pub returns-in_default-clause-any_moment : goal.returns-in_default-clause-any_moment
 returns-in_default-clause-any_moment g t c = λ tells m limit group now after at same all enough.
@@ -39,14 +39,6 @@ returns-in_default-clause-any_moment g t c = λ tells m limit group now after at
     let e = c.args.ends.now in
     let old = d.held c.args.disk.now in
     no_call d g.met.D.Disk.only_now c.args.disk.now (SurvivesWith m (samples_of group)) (λ image crash. survives_more m (samples_of group) image (image_survives m e.volume old at.stands image crash))
-
-pub returns-in_default-clause-exact : goal.returns-in_default-clause-exact
-returns-in_default-clause-exact g t c = λ records limit group now after all.
-    let d = g.D.Disk in
-    let e = c.args.ends.now in
-    let old = d.held c.args.disk.now in
-    let none = nil_from_length c.args.runs.now c.in_default.ensures.cases in
-    none_after records e limit group now after (subst (λ rs. AreRuns records e limit rs group now after) none all)
 
 pub returns-in-Err-clause-any_moment : goal.returns-in-Err-clause-any_moment
 returns-in-Err-clause-any_moment g t c = λ tells m limit group now after at same all enough.
@@ -107,7 +99,7 @@ returns-in-Ok-write_runs-clause-ok g t c = λ tells m limit group now after at s
     let new = d.held c.write_runs.new.disk in
     let is = c.in-Ok.ensures.exact in
     let w = c.in-Ok.ensures.ok tells m limit a.0 a.3 a.4 at same a.5 (first_enough m e next limit run rest group now after a enough is) in
-    rest_written m e next limit run rest group now after a enough is mid w c.in-Ok-write_runs.last new (c.in-Ok-write_runs.ensures.ok tells w.new limit a.1 now after w.at (w.label_same ∙ same) (rest_runs m e next limit run rest group now after a enough is mid w) (rest_enough m e next limit run rest group now after a enough is))
+    subst (λ rs. RunWritten m e c.in-Ok-write_runs.last limit rs group now new) (sym c.in-Some.ensures.cases.0) (rest_written m e next limit run rest group now after a enough is mid w c.in-Ok-write_runs.last new (c.in-Ok-write_runs.ensures.ok tells w.new limit a.1 now after w.at (w.label_same ∙ same) (rest_runs m e next limit run rest group now after a enough is mid w) (rest_enough m e next limit run rest group now after a enough is)))
 
 pub returns-in-Ok-write_runs-clause-any_moment : goal.returns-in-Ok-write_runs-clause-any_moment
 returns-in-Ok-write_runs-clause-any_moment g t c = λ tells m limit group now after at same all enough.
@@ -144,17 +136,6 @@ returns-in-Err-write_runs-clause-any_moment g t c = λ tells m limit group now a
     (c.write_one.ensures.any_moment tells m limit a.0 a.3 a.4 at same a.5 (first_enough m e next limit run rest group now after a enough is))
     (c.write_runs.ensures.any_moment tells w.new limit a.1 now after w.at (w.label_same ∙ same) (rest_runs m e next limit run rest group now after a enough is mid w) (rest_enough m e next limit run rest group now after a enough is))
     (first_survives m e next limit run rest group now after a enough is) (rest_survives m e next limit run rest group now after a enough is mid w)
-
-pub returns-in-Ok-write_runs-clause-exact : goal.returns-in-Ok-write_runs-clause-exact
-returns-in-Ok-write_runs-clause-exact g t c = λ records limit group now after all.
-    let d = g.D.Disk in
-    let e = c.args.ends.now in
-    let run = c.in-Some.first.now in
-    let rest = c.in-Some.rest.now in
-    let old = d.held c.args.disk.now in
-    let mid = d.held c.write_one.new.disk in
-    let a = subst (λ rs. AreRuns records e limit rs group now after) c.in-Some.ensures.cases.0 all in
-    c.in-Ok-write_runs.ensures.exact a.3 limit a.1 now after (rest_at records e c.in-Ok.next limit run rest group now after a c.in-Ok.ensures.exact)
 
 pub returns-in-Err-write_runs-clause-written : goal.returns-in-Err-write_runs-clause-written
 returns-in-Err-write_runs-clause-written g t c = λ tells m limit group now after at same all enough.

@@ -1,5 +1,5 @@
 -- What was judged is written.
-use Rattle.std.proofs.Common.{refl, subst}
+use Rattle.std.proofs.Common.{refl, sym, ◌∙◌, subst}
 use Rattle.std.specs.Prelude.{◌≡◌}
 use Rattle.logger_core.specs.Grouping.{GroupMayAnswer, LeavesFirst, samples_of}
 use Rattle.logger_core.specs.Held.{IsJudgedBy, held_of}
@@ -7,6 +7,7 @@ use Rattle.logger_core.specs.Meant.{Kept}
 use Rattle.logger_core.specs.Runs.{SurvivesWith}
 use Rattle.logger_core.proofs.Calls.{no_call, run_as}
 use Rattle.logger_core.proofs.GroupLogged.{always_open, answer_on, answers_done, answers_fault, answers_first, answers_loggable, answers_open, answers_touched, disk_answer, front_written, given_runs, held_enough, held_survives, inside_at, inside_bounded, inside_few, inside_label, judge_answer, judge_leaves, meant_runs, ok_always}
+use Rattle.logger_core.proofs.HeldRuns.{runs_after}
 use Rattle.logger_core.proofs.Loggable.{survives_more}
 use Rattle.logger_core.proofs.Rests.{image_survives}
 use Rattle.logger_core.proofs.logger.Logger.log_all.Goals as goal
@@ -67,7 +68,7 @@ returns-in-Ok-clause-loggable g c =
     let is = c.self.view_is in
     let runs = c.as_slice-runs.result.now in
     let same = c.as_slice-runs.ensures in
-    answers_loggable old now inside group j p is c.answer_of.result c.in-Ok.ends c.answer_of.ensures.none c.answer_of.ensures.some (c.in-Ok.ensures.exact old.records old.limit (held_of j.refused group) now.records j.group.planned (given_runs old now inside group j p is runs same))
+    answers_loggable old now inside group j p is c.answer_of.result c.in-Ok.ends c.answer_of.ensures.none c.answer_of.ensures.some (c.in-Ok.ensures.exact ∙ sym (runs_after old.records inside.ends old.limit runs (held_of j.refused group) now.records j.group.planned (given_runs old now inside group j p is runs same)))
 
 pub returns-in-Ok-clause-open_ : goal.returns-in-Ok-clause-open_
 returns-in-Ok-clause-open_ g c =
@@ -129,7 +130,7 @@ returns-in-Ok-clause-fault g c =
     let is = c.self.view_is in
     let runs = c.as_slice-runs.result.now in
     let same = c.as_slice-runs.ensures in
-    answers_fault old now inside group j p is c.answer_of.result c.in-Ok.ends c.answer_of.ensures.none c.answer_of.ensures.some (d.faults c.args.disk.now) (d.faults c.write_runs.new.disk) (c.in-Ok.ensures.exact old.records old.limit (held_of j.refused group) now.records j.group.planned (given_runs old now inside group j p is runs same)) (c.in-Ok.ensures.cause.quiet refl)
+    answers_fault old now inside group j p is c.answer_of.result c.in-Ok.ends c.answer_of.ensures.none c.answer_of.ensures.some (d.faults c.args.disk.now) (d.faults c.write_runs.new.disk) (c.in-Ok.ensures.exact ∙ sym (runs_after old.records inside.ends old.limit runs (held_of j.refused group) now.records j.group.planned (given_runs old now inside group j p is runs same))) (c.in-Ok.ensures.cause.quiet refl)
 
 pub returns-in-Ok-clause-first : goal.returns-in-Ok-clause-first
 returns-in-Ok-clause-first g c = λ tells enough m l.

@@ -10,7 +10,7 @@ use Rattle.logging_session.specs.Events.{Event, behind}
 use Rattle.logging_session.specs.Keeping.{AreWhole, Carried, IsFailed, IsWorking, Keeps}
 use Rattle.logging_session.proofs.Course.{kept_not_failed, not_closed_by}
 use Rattle.logging_session.proofs.Events.{closing_none, closing_some}
-use Rattle.logging_session.proofs.Placed.{same_count, working_not_failed}
+use Rattle.logging_session.proofs.Placed.{nothing_logged, same_count, working_not_failed}
 use Rattle.logging_session.proofs.Sessions.{kept_comes, kept_none, kept_settled, kept_some, kept_whole}
 use Rattle.logging_session.proofs.session.Session.close.Goals as goal
 
@@ -31,6 +31,7 @@ returns-then-has_failed g c =
       failed = λ h. (refl, refl, refl);
       idle = λ none other. absurd (other failed);
       open_ = tt;
+      none = tt;
       stays = tt;
       cause = (inr failed, refl);
       same = (refl, refl, refl);
@@ -55,6 +56,7 @@ returns-then-self-eq0 g c =
       failed = λ h. absurd (other h);
       idle = λ none other. (refl, refl, refl);
       open_ = other;
+      none = nothing_logged c.self.inside.place old.place c.self.inside.logged c.self.invariant.held c.if-self-eq0.true (ap (λ (t : Carried). t.place) c.self.view_is);
       stays = λ h. h;
       cause = tt;
       same = (refl, refl, refl);
@@ -86,6 +88,7 @@ returns g c =
       failed = λ h. absurd (other h);
       idle = λ none also. absurd (some none);
       open_ = on_ok c.flush.result (IsWorking old × IsWorking new) (IsFailed new → ⊥) (λ w. working_not_failed new.place w.1) c.flush.ensures.working;
+      none = c.flush.ensures.none;
       stays = c.flush.ensures.open_;
       cause = c.flush.ensures.cause;
       same = c.flush.ensures.same;

@@ -9,4 +9,4 @@ returns-clause-went g c = λ tells left events start h.
     let d = g.D.Disk in
     flush_went d left g.met.D.Disk.only_now start c.args.disk.now c.make_sure.new.disk c.args.self.now c.make_sure.new.self c.make_sure.ensures.same.0 c.make_sure.ensures.same.1 events h
     (c.make_sure.ensures.any_moment tells left events h.keeps) Event.flushed refl c.make_sure.result (d.faults c.args.disk.now) (d.faults c.make_sure.new.disk)
-    (c.make_sure.ensures.done tells left events h.keeps) c.make_sure.ensures.cause c.make_sure.ensures.closed
+    (c.make_sure.ensures.done tells left events h.keeps) c.make_sure.ensures.none c.make_sure.ensures.cause c.make_sure.ensures.closed

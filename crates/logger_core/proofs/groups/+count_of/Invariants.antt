@@ -1,0 +1,6 @@
+-- One run less is left.
+use Rattle.std.proofs.Common.{length}
+use Rattle.logger_core.proofs.groups.+count_of.Given as goal
+
+abbrev pub decreases-count_of : goal.decreases-count_of
+decreases-count_of l = length l.runs.now
