@@ -147,7 +147,7 @@ module _ (m : Meant) (e : Ends) (held : Holdings) (at : IsAt m e held) (low : e.
     switch_ahead : (new : Holdings) × IsReady m e (switched_ends e) true new
     switch_ahead = (
       led.0,
-      switched_ready m l e fl op (switched_ends e) led.0 mid refl f with_label opened same_volume refl refl (put_greatest (due_at (all_counted e)) (all_counted e)) (put_volume (switch_at op) op) (few_acknowledged m e.volume held at.stands) led.1,
+      switched_ready m l e fl mid refl f same_volume op with_label opened refl refl (put_greatest (due_at (all_counted e)) (all_counted e)) (switched_ends e) led.0 (put_volume (switch_at op) op) (few_acknowledged m e.volume held at.stands) led.1,
     )
 
 pub ready_ahead : (m : Meant) (e : Ends) (held : Holdings) (b : Bool) → IsAt m e held → e.volume < 2147483648 → (b ≡ true → e.volume + 1 < 2147483648) → (new : Holdings) × IsReady m e (ready_ends b e) b new
