@@ -1,5 +1,5 @@
 -- What a run leaves, on a disk that is only thought of: each step of its writing is made there, and none fails.
-use Rattle.std.proofs.Common.{◌≡◌, inl, inr, ℕ, pos, negsuc, ◌+◌, ◌<◌, ◌≤◌, Bool, true, false, List, [], ◌∷◌, ◌++◌, length, Option, None, Some, refl, sym, ap, ◌∙◌, subst, arith, cond}
+use Rattle.std.proofs.Common.{◌≡◌, ℕ, pos, negsuc, ◌+◌, ◌<◌, Bool, true, false, List, [], ◌∷◌, Option, None, Some, refl, sym, ap, ◌∙◌, subst, arith, cond}
 use Rattle.std.specs.Prelude.{option_to_list}
 use Rattle.pcp_base.specs.Time.{Moment, IsMoment}
 use Rattle.pcp_base.specs.declared.file.FileId.{FileId}
@@ -17,12 +17,12 @@ use Rattle.pcp_outside.specs.Devices.{Becomes, held_after_append, held_after_syn
 use Rattle.pcp_outside.proofs.Images.{same_file-refl}
 use Rattle.logger_core.specs.declared.ends.Ends.{Ends}
 use Rattle.logger_core.specs.declared.groups.Run.{Run}
-use Rattle.logger_core.specs.Going.{FlushIsDone, GrownTo, GrowsBy, HasRoomIfAny, IsVolumeSure, LeadIfAny, LeadsToEnds, all_acknowledged, all_counted}
+use Rattle.logger_core.specs.Going.{FlushIsDone, GrownTo, GrowsBy, HasRoomIfAny, IsVolumeSure, LeadIfAny, all_acknowledged, all_counted}
 use Rattle.logger_core.specs.Grouping.{Told, AreAllEnough, samples_of}
 use Rattle.logger_core.specs.Held.{IsRunOf, MayRun, RunWritten, after_run}
 use Rattle.logger_core.specs.LogSteps.{switch_entry, with_new_volume, with_run}
-use Rattle.logger_core.specs.Meant.{Meant, IsAt, items_in}
-use Rattle.logger_core.specs.Planning.{due_at, flushed_ends, opened_ends, ran_ends, ready_ends, switch_at, switched_ends, with_put}
+use Rattle.logger_core.specs.Meant.{Meant, IsAt}
+use Rattle.logger_core.specs.Planning.{due_at, flushed_ends, opened_ends, ready_ends, switch_at, switched_ends, with_put}
 use Rattle.logger_core.specs.Runs.{AreItemsToCome, IsReady}
 use Rattle.logger_core.specs.Steps.{IsGreatest, up_to, with_entry}
 use Rattle.logger_core.proofs.Dues.{Due, due_is, fitting_is}

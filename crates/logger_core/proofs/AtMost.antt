@@ -1,5 +1,5 @@
 -- No more stands on the disk than what was to be written.
-use Rattle.std.proofs.Common.{◌≡◌, ⊎_elim, ℕ, ◌+◌, Bool, true, false, List, [], ◌++◌, length, take, drop, Option, Some, None, refl, sym, ap, ◌∙◌, subst, append_assoc, cond}
+use Rattle.std.proofs.Common.{◌≡◌, ⊎_elim, ℕ, Bool, true, false, List, [], ◌++◌, length, take, drop, Option, Some, None, refl, sym, ap, ◌∙◌, subst, append_assoc, cond}
 use Rattle.std.specs.Prelude.{Result, Ok, Err, pos}
 use Rattle.std.proofs.lemmas.List.{append-nil, take-append-drop}
 use Rattle.pcp_base.specs.Time.{Moment}

@@ -23,7 +23,7 @@ use Rattle.logger_core.specs.Keeps.{Start}
 use Rattle.logger_core.specs.Laws.{Survives}
 use Rattle.logger_core.specs.Logging.{IsLoggable}
 use Rattle.logger_core.specs.LogSteps.{base_files, crosses, with_next, with_run}
-use Rattle.logger_core.specs.Meant.{Meant, AreEnds, Stands, IsAt, items_in}
+use Rattle.logger_core.specs.Meant.{Meant, AreEnds, IsAt, items_in}
 use Rattle.logger_core.specs.Planning.{ran_ends, ready_ends}
 use Rattle.logger_core.specs.Runs.{IsReady, IsRunToCome, SurvivesWith}
 use Rattle.logger_core.specs.Steps.{with_entry}

@@ -367,8 +367,8 @@ impl Logger {
         ensures fault { IfErr result (HoldMayAnswer (record { kept = self.old; runs = group.old.runs; planned = group.old.planned }) answer.now facts.now) }
         ensures still { OnErr result ((self.new ≡ self.old) × (group.new ≡ group.old)) }
     {
-        let is_closed = self.closed;
-        if is_closed {
+        let closed = self.closed;
+        if closed {
             return Err(LogFault::Closed);
         }
         hold(&mut self.meta, alloc, group, self.limit, answer, facts)
