@@ -2,14 +2,13 @@
 use Rattle.std.proofs.Common.{subst, sym, Option}
 use Rattle.std.specs.Prelude.{[], option_to_list, IfOk}
 use Rattle.pcp_model.specs.declared.records.Entry.{Entry}
-use Rattle.logger_core.specs.Going.{GrownTo, LeadIfAny}
+use Rattle.logger_core.specs.Going.{GrownTo, LeadIfAny, HoldsNoMore}
 use Rattle.logger_core.specs.Meant.{SurvivesOf}
 use Rattle.logger_core.specs.Steps.{with_entry}
 use Rattle.logger_core.proofs.Calls.{no_call}
 use Rattle.logger_core.proofs.Growing.{grows_not}
 use Rattle.logger_core.proofs.Rests.{image_survives}
 use Rattle.logger_core.proofs.Turned.{none_put}
-use Rattle.logger_core.specs.Going.{HoldsNoMore}
 use Rattle.logger_core.proofs.AtMost.{most_same}
 use Rattle.logger_core.proofs.flushing.add_entry.Goals as goal
 

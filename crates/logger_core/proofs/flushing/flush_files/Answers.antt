@@ -1,17 +1,15 @@
 -- The volume is synced, and the entry put that is then due.
 use Rattle.logger_core.specs.Meant.{SurvivesOf}
-use Rattle.logger_core.specs.Going.{all_acknowledged}
+use Rattle.logger_core.specs.Going.{all_acknowledged, HoldsNoMore}
 use Rattle.logger_core.proofs.Calls.{run_then}
 use Rattle.logger_core.proofs.Growing.{grows_then}
 use Rattle.logger_core.proofs.Rests.{fewer_acknowledged}
-use Rattle.logger_core.proofs.Turned.{found_room, found_leads, flush_ok}
+use Rattle.logger_core.proofs.Turned.{found_room, found_leads, flush_ok, due_same}
 use Rattle.std.proofs.Common.{ℕ, Option, ap, ◌∙◌, subst}
 use Rattle.pcp_base.specs.Time.{Moment}
 use Rattle.pcp_model.specs.declared.records.Entry.{Entry}
-use Rattle.logger_core.specs.Going.{HoldsNoMore}
 use Rattle.logger_core.specs.Steps.{due_in, with_entry}
 use Rattle.logger_core.proofs.AtMost.{entry_longer, most_longer}
-use Rattle.logger_core.proofs.Turned.{due_same}
 use Rattle.logger_core.proofs.flushing.flush_files.Goals as goal
 
 pub add_entry-requires-clause-room : goal.add_entry-requires-clause-room

@@ -2,7 +2,7 @@
 use Rattle.pcp_base.specs.declared.file.FileId.TheVariants.{Index}
 use Rattle.std.proofs.Common.{Some, [], ◌∷◌, sym, subst}
 use Rattle.logger_core.specs.declared.ends.Ends.{Ends}
-use Rattle.logger_core.specs.Going.{GrownTo}
+use Rattle.logger_core.specs.Going.{GrownTo, HoldsNoMore}
 use Rattle.logger_core.specs.Meant.{SurvivesOf}
 use Rattle.logger_core.specs.Steps.{with_entry}
 use Rattle.logger_core.proofs.Calls.{one_append}
@@ -10,7 +10,6 @@ use Rattle.logger_core.proofs.EntryPut.{entry_survives, entry_fits, entry_append
 use Rattle.logger_core.proofs.Growing.{grows_append}
 use Rattle.logger_core.proofs.Rests.{image_survives}
 use Rattle.pcp_model.specs.Written.{with_added}
-use Rattle.logger_core.specs.Going.{HoldsNoMore}
 use Rattle.logger_core.proofs.AtMost.{most_appended}
 use Rattle.logger_core.proofs.flushing.put_entry.Goals as goal
 

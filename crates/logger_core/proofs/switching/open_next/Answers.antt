@@ -4,14 +4,13 @@ use Rattle.pcp_base.specs.declared.file.FileId.TheVariants.{Volume}
 use Rattle.pcp_model.specs.Disk.{CrashImage}
 use Rattle.pcp_outside.specs.Devices.{holdings_after_append}
 use Rattle.logger_core.specs.declared.ends.Ends.{Ends}
-use Rattle.logger_core.specs.Going.{GrownTo}
+use Rattle.logger_core.specs.Going.{GrownTo, HoldsNoMore}
 use Rattle.logger_core.specs.LogSteps.{with_new_volume}
 use Rattle.logger_core.specs.Meant.{SurvivesOf}
 use Rattle.logger_core.proofs.Calls.{run_as}
 use Rattle.logger_core.proofs.Growing.{grows_append_synced}
 use Rattle.logger_core.proofs.Opened.{label_survives, label_grown, label_number_is, range_number_is}
 use Rattle.pcp_model.specs.Written.{with_added}
-use Rattle.logger_core.specs.Going.{HoldsNoMore}
 use Rattle.logger_core.proofs.AtMost.{most_append_synced}
 use Rattle.logger_core.proofs.switching.open_next.Goals as goal
 

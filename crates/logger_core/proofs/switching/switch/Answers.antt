@@ -1,10 +1,9 @@
 -- A flush, the label, the entry.
-use Rattle.std.proofs.Common.{◌∙◌}
+use Rattle.std.proofs.Common.{◌∙◌, ◌+◌, length, true, Option, subst}
 use Rattle.logger_core.specs.Meant.{IsAt, SurvivesOf}
 use Rattle.logger_core.proofs.Calls.{run_then}
 use Rattle.logger_core.proofs.Growing.{grows_then}
-use Rattle.logger_core.proofs.Turned.{flushed_survives, grown_survives, switch_found_room, switch_found_leads, switch_ok}
-use Rattle.std.proofs.Common.{◌+◌, length, true, Option, subst}
+use Rattle.logger_core.proofs.Turned.{flushed_survives, grown_survives, switch_found_room, switch_found_leads, switch_ok, opened_files, switched_base}
 use Rattle.pcp_base.specs.declared.file.FileId.TheVariants.{Meta, Index}
 use Rattle.pcp_model.specs.declared.records.Entry.{Entry}
 use Rattle.logger_core.specs.Going.{HoldsNoMore}
@@ -12,7 +11,6 @@ use Rattle.logger_core.specs.LogSteps.{base_files, switch_entry, with_new_volume
 use Rattle.logger_core.specs.Planning.{switch_at}
 use Rattle.logger_core.specs.Steps.{due_in, with_entry}
 use Rattle.logger_core.proofs.AtMost.{entry_longer, most_as, most_longer, next_longer}
-use Rattle.logger_core.proofs.Turned.{opened_files, switched_base}
 use Rattle.logger_core.proofs.switching.switch.Goals as goal
 
 pub add_entry-requires-clause-room : goal.add_entry-requires-clause-room

@@ -5,12 +5,11 @@ use Rattle.logger_core.specs.Runs.{SurvivesWith}
 use Rattle.logger_core.proofs.Calls.{run_as, run_then}
 use Rattle.logger_core.proofs.Growing.{grows_then}
 use Rattle.logger_core.proofs.Loggable.{survives_more}
-use Rattle.logger_core.proofs.RunsWritten.{may_run, run_come, run_ok, run_survives, first_many}
+use Rattle.logger_core.proofs.RunsWritten.{may_run, run_come, run_ok, run_survives, first_many, based, run_most}
 use Rattle.logger_core.specs.Held.{ready_files, run_files}
 use Rattle.logger_core.specs.LogSteps.{base_files}
 use Rattle.logger_core.specs.Planning.{ready_ends}
 use Rattle.logger_core.proofs.AtMost.{most_as, most_longer, run_longer}
-use Rattle.logger_core.proofs.RunsWritten.{based, run_most}
 use Rattle.logger_core.proofs.writing.write_one.Goals as goal
 
 pub returns-in_err-start-clause-any_moment : goal.returns-in_err-start-clause-any_moment

@@ -1,21 +1,17 @@
 -- What was judged is written.
-use Rattle.std.proofs.Common.{refl, sym, ◌∙◌, subst}
-use Rattle.std.specs.Prelude.{◌≡◌}
-use Rattle.logger_core.specs.Grouping.{GroupMayAnswer, LeavesFirst, samples_of}
+use Rattle.std.proofs.Common.{refl, sym, ◌∙◌, subst, List, take}
+use Rattle.std.specs.Prelude.{◌≡◌, ◌≢◌}
+use Rattle.logger_core.specs.Grouping.{GroupMayAnswer, LeavesFirst, samples_of, Told}
 use Rattle.logger_core.specs.Held.{IsJudgedBy, held_of}
 use Rattle.logger_core.specs.Meant.{Kept}
 use Rattle.logger_core.specs.Runs.{SurvivesWith}
 use Rattle.logger_core.proofs.Calls.{no_call, run_as}
-use Rattle.logger_core.proofs.GroupLogged.{always_open, answer_on, answers_done, answers_fault, answers_first, answers_loggable, answers_open, answers_touched, disk_answer, front_written, given_runs, held_enough, held_survives, inside_at, inside_bounded, inside_few, inside_label, judge_answer, judge_leaves, meant_runs, ok_always}
+use Rattle.logger_core.proofs.GroupLogged.{always_open, answer_on, answers_done, answers_fault, answers_first, answers_loggable, answers_open, answers_touched, disk_answer, front_written, given_runs, held_enough, held_survives, inside_at, inside_bounded, inside_few, inside_label, judge_answer, judge_leaves, meant_runs, ok_always, answers_refused}
 use Rattle.logger_core.proofs.HeldRuns.{runs_after}
 use Rattle.logger_core.proofs.Loggable.{survives_more}
 use Rattle.logger_core.proofs.Rests.{image_survives}
-use Rattle.std.proofs.Common.{List, take}
-use Rattle.std.specs.Prelude.{◌≢◌}
 use Rattle.pcp_outside.specs.Devices.{LeavesOnly}
 use Rattle.logger_core.specs.declared.fault.LogFault.TheVariants.{DiskFault}
-use Rattle.logger_core.specs.Grouping.{Told}
-use Rattle.logger_core.proofs.GroupLogged.{answers_refused}
 use Rattle.logger_core.proofs.logger.Logger.log_all.Goals as goal
 
 pub write_runs-requires-clause-bounded : goal.write_runs-requires-clause-bounded
