@@ -1,5 +1,5 @@
 -- What a run leaves, on a disk that is only thought of: each step of its writing is made there, and none fails.
-use Rattle.std.proofs.Common.{◌≡◌, inl, inr, ℕ, pos, negsuc, ◌+◌, ◌<◌, ◌≤◌, Bool, true, false, List, [], ◌∷◌, ◌++◌, length, Option, None, Some, refl, sym, ap, ◌∙◌, subst, arith, cond}
+use Rattle.std.proofs.Common.{◌≡◌, ℕ, pos, negsuc, ◌+◌, ◌<◌, Bool, true, false, List, [], ◌∷◌, Option, None, Some, refl, sym, ap, ◌∙◌, subst, arith, cond}
 use Rattle.std.specs.Prelude.{option_to_list}
 use Rattle.pcp_base.specs.Time.{Moment, IsMoment}
 use Rattle.pcp_base.specs.declared.file.FileId.{FileId}
@@ -17,12 +17,12 @@ use Rattle.pcp_outside.specs.Devices.{Becomes, held_after_append, held_after_syn
 use Rattle.pcp_outside.proofs.Images.{same_file-refl}
 use Rattle.logger_core.specs.declared.ends.Ends.{Ends}
 use Rattle.logger_core.specs.declared.groups.Run.{Run}
-use Rattle.logger_core.specs.Going.{FlushIsDone, GrownTo, GrowsBy, HasRoomIfAny, IsVolumeSure, LeadIfAny, LeadsToEnds, all_acknowledged, all_counted}
+use Rattle.logger_core.specs.Going.{FlushIsDone, GrownTo, GrowsBy, HasRoomIfAny, IsVolumeSure, LeadIfAny, all_acknowledged, all_counted}
 use Rattle.logger_core.specs.Grouping.{Told, AreAllEnough, samples_of}
 use Rattle.logger_core.specs.Held.{IsRunOf, MayRun, RunWritten, after_run}
 use Rattle.logger_core.specs.LogSteps.{switch_entry, with_new_volume, with_run}
-use Rattle.logger_core.specs.Meant.{Meant, IsAt, items_in}
-use Rattle.logger_core.specs.Planning.{due_at, flushed_ends, opened_ends, ran_ends, ready_ends, switch_at, switched_ends, with_put}
+use Rattle.logger_core.specs.Meant.{Meant, IsAt}
+use Rattle.logger_core.specs.Planning.{due_at, flushed_ends, opened_ends, ready_ends, switch_at, switched_ends, with_put}
 use Rattle.logger_core.specs.Runs.{AreItemsToCome, IsReady}
 use Rattle.logger_core.specs.Steps.{IsGreatest, up_to, with_entry}
 use Rattle.logger_core.proofs.Dues.{Due, due_is, fitting_is}
@@ -147,7 +147,7 @@ module _ (m : Meant) (e : Ends) (held : Holdings) (at : IsAt m e held) (low : e.
     switch_ahead : (new : Holdings) × IsReady m e (switched_ends e) true new
     switch_ahead = (
       led.0,
-      switched_ready m l e fl op (switched_ends e) led.0 mid refl f with_label opened same_volume refl refl (put_greatest (due_at (all_counted e)) (all_counted e)) (put_volume (switch_at op) op) (few_acknowledged m e.volume held at.stands) led.1,
+      switched_ready m l e fl mid refl f same_volume op with_label opened refl refl (put_greatest (due_at (all_counted e)) (all_counted e)) (switched_ends e) led.0 (put_volume (switch_at op) op) (few_acknowledged m e.volume held at.stands) led.1,
     )
 
 pub ready_ahead : (m : Meant) (e : Ends) (held : Holdings) (b : Bool) → IsAt m e held → e.volume < 2147483648 → (b ≡ true → e.volume + 1 < 2147483648) → (new : Holdings) × IsReady m e (ready_ends b e) b new

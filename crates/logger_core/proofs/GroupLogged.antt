@@ -2,7 +2,7 @@
 use Rattle.std.proofs.Common.{zero, suc, ◌≡◌, ℕ, ◌<◌, ◌≤◌, true, false, List, [], ◌∷◌, ◌++◌, length, take, drop, Option, None, Some, refl, sym, ap, ◌∙◌, subst, append_assoc, arith}
 use Rattle.std.specs.Prelude.{◌≢◌, slice_get, Result, Ok, Err, IfErr, OnOk}
 use Rattle.std.specs.Result.{IsErrAnd}
-use Rattle.std.proofs.lemmas.List.{length-take, take-append-drop}
+use Rattle.std.proofs.lemmas.List.{drop-append-le, length-take, take-append-drop}
 use Rattle.std.proofs.lemmas.Result.{err_from_is_err_and}
 use Rattle.pcp_base.specs.declared.result.PmResult.{PmResult}
 use Rattle.pcp_model.specs.declared.records.MetaRecord.{MetaRecord}
@@ -78,10 +78,30 @@ begins_held records e limit (Some r) all k b =
     let front = in_front r.0 k all b.one b.is in
     record { one = b.one; is = front.0; now = b.now; after = b.after; loggable = subst (λ gs. AreLoggable records e limit gs b.now b.after) front.1 b.loggable; this = b.this; first = b.first }
 
-pub written_held : (m : Meant) (number limit : ℕ) (records : List MetaRecord) (e : Ends) (bound : ℕ) (refused : Option (ℕ × LogFault)) (all : List Told) (k : ℕ) (held : Holdings) → BeginsRun records e bound (held_of refused all) k → AreWritten m number limit (take k (held_of refused all)) held
-    → AreWritten m number limit (take k all) held
+got_low : (xs : List Told) (k : ℕ) (g : Told) → slice_get xs k ≡ Some g → k ≤ length xs
+got_low [] k g is = absurd (none k is)
+  where
+    none : (i : ℕ) → slice_get {X = Told} [] i ≡ Some g → ⊥
+    none zero some = cc
+    none (suc i) some = cc
+got_low (x ∷ xs) zero g is = omega arith
+got_low (x ∷ xs) (suc k) g is = omega (arith, got_low xs k g is)
+
+pub written_held : (m : Meant) (number limit : ℕ) (records : List MetaRecord) (e : Ends) (bound : ℕ) (refused : Option (ℕ × LogFault)) (all : List Told) (k : ℕ) (held : Holdings) → BeginsRun records e bound (held_of refused all) k → AreWritten m number limit (held_of refused all) k held
+    → AreWritten m number limit all k held
 written_held m number limit records e bound None all k held b w = w
-written_held m number limit records e bound (Some r) all k held b w = subst (λ gs. AreWritten m number limit gs held) (in_front r.0 k all b.one b.is).1 w
+written_held m number limit records e bound (Some r) all k held b w = record {
+  new = w.new;
+  next = w.next;
+  all = subst (λ gs. LogsAll m number limit gs w.new w.next) (in_front r.0 k all b.one b.is).1 w.all;
+  stand = w.stand;
+  run = w.run;
+  others = w.others ++ drop r.0 all;
+  behind = ap (drop k) (sym (take-append-drop r.0 all)) ∙ drop-append-le k (take r.0 all) (drop r.0 all) (got_low (take r.0 all) k b.one b.is) ∙ ap (λ gs. gs ++ drop r.0 all) w.behind ∙ append_assoc w.run w.others (drop r.0 all);
+  after = w.after;
+  would = w.would;
+  most = w.most;
+}
 
 -- ---- runs of nothing
 
@@ -174,8 +194,8 @@ module _ (old now inside : Kept) (group : List Told) (j : Judged) (p : IsJudgedB
       is = record { at = w.at; label_is = w.label_same ∙ l.label_is; records_are = w.records_are };
     }
 
-    pub front_written : (k : ℕ) (new : Holdings) → BeginsRun old.records inside.ends old.limit front k → AreWritten m inside.ends.volume old.limit (take k front) new → AreWritten m old.ends.volume old.limit (take k group) new
-    front_written k new b w = written_held m old.ends.volume old.limit old.records inside.ends old.limit j.refused group k new b (subst (λ (x : Ends). AreWritten m x.volume old.limit (take k front) new) (sym same_ends) w)
+    pub front_written : (k : ℕ) (new : Holdings) → BeginsRun old.records inside.ends old.limit front k → AreWritten m inside.ends.volume old.limit front k new → AreWritten m old.ends.volume old.limit group k new
+    front_written k new b w = written_held m old.ends.volume old.limit old.records inside.ends old.limit j.refused group k new b (subst (λ (x : Ends). AreWritten m x.volume old.limit front k new) (sym same_ends) w)
 
   pub front_begins : (k : ℕ) → BeginsRun old.records inside.ends old.limit front k → BeginsRun old.records old.ends old.limit group k
   front_begins k b = begins_held old.records old.ends old.limit j.refused group k (subst (λ (x : Ends). BeginsRun old.records x old.limit front k) (sym same_ends) b)
@@ -225,6 +245,10 @@ module _ (old now inside : Kept) (group : List Told) (j : Judged) (p : IsJudgedB
     pub answers_touched : {D : Type 0} (runs : List Run) (before after : D) → runs ≡ j.group.runs → (runs ≡ [] → after ≡ before) → IfErr r (λ e. e.0 ≡ 0 → e.1 ≢ DiskFault → after ≡ before)
     answers_touched runs before after same nothing = err_when r (λ e. j.refused ≡ Some e) (λ e. e.0 ≡ 0 → e.1 ≢ DiskFault → after ≡ before) some
         (λ e given first other. nothing (no_runs old.records inside.ends old.limit runs front now.records j.group.planned (given_runs runs same) (ap (λ o. held_of o group) given ∙ ap (λ (k : ℕ). take k group) first)))
+
+    -- a crash leaves none of a refused one
+    pub answers_refused : (Leaves : List Told → Type 0) → Leaves front → IfErr r (λ e. e.1 ≢ DiskFault → Leaves (take e.0 group))
+    answers_refused Leaves run = err_when r (λ e. j.refused ≡ Some e) (λ e. e.1 ≢ DiskFault → Leaves (take e.0 group)) some (λ e given other. subst (λ o. Leaves (held_of o group)) given run)
 
     module _ (m : Meant) (held new : Holdings) (l : IsLogger m old held) {runs : List Run} (w : RunWritten m inside.ends ends old.limit runs front now.records new) where
       pub answers_done : OnOk r (AreLogged m old (shown ends) group new)

@@ -1,6 +1,6 @@
 -- A logger that holds results: one more of them, and all of them written.
-use Rattle.std.proofs.Common.{◌≡◌, ℕ, ◌+◌, ◌<◌, ◌≤◌, Bool, true, false, List, [], ◌∷◌, ◌++◌, length, take, refl, sym, ap, ◌∙◌, subst, append_assoc, arith, length-append}
-use Rattle.std.specs.Prelude.{◌≢◌, if◌then◌else◌, Result, Ok, Err, IfErr, OnErr, OnOk}
+use Rattle.std.proofs.Common.{◌≡◌, ℕ, ◌+◌, ◌<◌, ◌≤◌, Bool, true, false, List, [], ◌∷◌, ◌++◌, length, refl, sym, ap, ◌∙◌, subst, append_assoc, arith, length-append}
+use Rattle.std.specs.Prelude.{if◌then◌else◌, Result, Ok, Err, OnErr, OnOk}
 use Rattle.std.proofs.Math.Path.{fun_ext}
 use Rattle.std.proofs.lemmas.List.{append-nil}
 use Rattle.pcp_base.specs.Time.{Moment}
@@ -18,18 +18,17 @@ use Rattle.logger_core.specs.declared.groups.Group.{Group}
 use Rattle.logger_core.specs.declared.groups.Run.{Run}
 use Rattle.logger_core.specs.declared.preparing.Made.{Made}
 use Rattle.logger_core.specs.Going.{AreSmall, IsReachable}
-use Rattle.logger_core.specs.Grouping.{Told, LogsAll, LogsOne, AreLoggable, samples_of}
-use Rattle.logger_core.specs.Held.{AreRuns, AreRunsBounded, IsHeldMore, IsRunBounded, IsRunOf, RunWritten, after_run, after_runs, counts_of, joined_run, ready_files, run_files, run_of, runs_acknowledged, runs_files, with_made}
+use Rattle.logger_core.specs.Grouping.{Told, LogsOne, AreLoggable, samples_of}
+use Rattle.logger_core.specs.Held.{AreRuns, AreRunsBounded, IsRunBounded, IsRunOf, RunWritten, after_run, after_runs, counts_of, joined_run, ready_files, run_files, run_of, runs_acknowledged, runs_files, with_made}
 use Rattle.logger_core.specs.Holding.{HeldBack, HoldsMore, HoldingNothingIsALogger, IsBatch, IsHeldBy, IsHolding, LoggerHoldsNothing, all_sure, ending_at}
 use Rattle.logger_core.specs.Keeps.{Start}
 use Rattle.logger_core.specs.Logging.{IsLoggable, IsMadeOf}
-use Rattle.logger_core.specs.LogSteps.{with_run}
 use Rattle.logger_core.specs.Meant.{Meant, Kept, AreEnds, IsAt, Stands, items_in}
 use Rattle.logger_core.specs.Planning.{ready_ends}
 use Rattle.logger_core.proofs.Ahead.{run_ahead}
 use Rattle.logger_core.proofs.AllSure.{sure_at, sure_stands}
 use Rattle.logger_core.proofs.Grouped.{logs_then, one_loggable, one_run, samples_many, samples_then}
-use Rattle.logger_core.proofs.HeldRuns.{count_after, count_more, held_runs, longer_after, longer_bounded, run_twice, runs_after, runs_count, small_after}
+use Rattle.logger_core.proofs.HeldRuns.{count_after, held_runs, longer_after, longer_bounded, run_twice, runs_after, runs_count, small_after}
 use Rattle.logger_core.proofs.Planned.{run_bounded}
 use Rattle.logger_core.proofs.Refused.{bounded}
 use Rattle.logger_core.proofs.Timely.{one_contents}

@@ -2,6 +2,8 @@ pub mod Ahead
 pub mod AllSure
 pub mod Announced
 pub mod AsFound
+pub mod AtMost
+pub mod Begun
 pub mod Calls
 pub mod Dues
 pub mod EntryPut

@@ -1,8 +1,8 @@
 -- A run is written, and then the runs behind it.
-use Rattle.std.proofs.Common.{suc, ◌≡◌, inl, inr, ⊎_elim, ℕ, ◌+◌, true, List, [], ◌∷◌, ◌++◌, length, take, refl, sym, ap, ◌∙◌, subst, append_assoc, arith, length-append}
+use Rattle.std.proofs.Common.{suc, ◌≡◌, inl, inr, ⊎_elim, ℕ, ◌+◌, true, List, [], ◌∷◌, ◌++◌, length, take, drop, refl, sym, ap, ◌∙◌, subst, append_assoc, arith, length-append}
 use Rattle.std.specs.Prelude.{slice_get, Some, Result, Ok, Err, IfOk, if◌then◌else◌, Bool, false}
 use Rattle.std.proofs.Math.Path.{fun_ext}
-use Rattle.std.proofs.Math.Seq.{take-append-add}
+use Rattle.std.proofs.Math.Seq.{drop-append-add, take-append-add}
 use Rattle.std.proofs.lemmas.Option.{same_Some}
 use Rattle.pcp_base.specs.declared.file.FileId.{FileId}
 use Rattle.pcp_base.specs.declared.file.FileId.TheVariants.{Meta, Volume}
@@ -16,17 +16,18 @@ use Rattle.pcp_model.proofs.Lists.{each-split}
 use Rattle.archive_meta.specs.Enough.{AreEnough}
 use Rattle.logger_core.specs.declared.ends.Ends.{Ends}
 use Rattle.logger_core.specs.declared.groups.Run.{Run}
-use Rattle.logger_core.specs.Going.{GrownTo, OnlyGrows}
+use Rattle.logger_core.specs.Going.{GrownTo, HoldsNoMore}
 use Rattle.logger_core.specs.Grouping.{Told, LogsAll, AreAllEnough, AreLoggable, AreWritten, BeginsRun, samples_of}
-use Rattle.logger_core.specs.Held.{MayRun, IsRunOf, AreRuns, AllCross, RunWritten, after_run, ready_files, runs_acknowledged, runs_files}
+use Rattle.logger_core.specs.Held.{MayRun, IsRunOf, AreRuns, AllCross, RunWritten, after_run, ready_files, run_files, runs_acknowledged, runs_files}
 use Rattle.logger_core.specs.Keeps.{Start}
 use Rattle.logger_core.specs.Laws.{Survives}
 use Rattle.logger_core.specs.Logging.{IsLoggable}
 use Rattle.logger_core.specs.LogSteps.{base_files, crosses, with_next, with_run}
-use Rattle.logger_core.specs.Meant.{Meant, AreEnds, Stands, IsAt, items_in}
+use Rattle.logger_core.specs.Meant.{Meant, AreEnds, IsAt, items_in}
 use Rattle.logger_core.specs.Planning.{ran_ends, ready_ends}
 use Rattle.logger_core.specs.Runs.{IsReady, IsRunToCome, SurvivesWith}
 use Rattle.logger_core.specs.Steps.{with_entry}
+use Rattle.logger_core.proofs.AtMost.{most_as}
 use Rattle.logger_core.proofs.Grouped.{samples_then, samples_many, loggable_then, logs_then}
 use Rattle.logger_core.proofs.Loggable.{survives_moved}
 use Rattle.logger_core.proofs.Planned.{base_of, grown_of}
@@ -57,6 +58,16 @@ module _ (m : Meant) (e start : Ends) (held mid : Holdings) (limit : ℕ) (run :
   ready_are : (file : FileId) → ready.new.files file ≡ ready_files m.contents.label run.crossing e m.files file
   ready_are file = ready.files_are file ∙ based m e at.ends run.crossing file
 
+  run_are : (file : FileId) → with_run start.volume run.records run.items ready.new.files file ≡ run_files m.contents.label e run m.files file
+  run_are file =
+      added_same (Volume start.volume) run.items (with_added Meta run.records ready.new.files) (with_added Meta run.records (ready_files m.contents.label run.crossing e m.files))
+      (added_same Meta run.records ready.new.files (ready_files m.contents.label run.crossing e m.files) ready_are) file
+      ∙ ap (λ (k : ℕ). with_run k run.records run.items (ready_files m.contents.label run.crossing e m.files) file) (ap (λ (x : Ends). x.volume) start_is)
+
+  pub run_most : (new : Holdings) (records items : List ℕ) → records ≡ run.records → items ≡ run.items → HoldsNoMore (with_run start.volume records items ready.new.files) new → HoldsNoMore (run_files m.contents.label e run m.files) new
+  run_most new records items first second most = most_as (with_run start.volume run.records run.items ready.new.files) (run_files m.contents.label e run m.files) new run_are
+      (subst (λ t. HoldsNoMore (with_run start.volume run.records t ready.new.files) new) second (subst (λ t. HoldsNoMore (with_run start.volume t items ready.new.files) new) first most))
+
   pub run_written : (next : Ends) (new : Holdings) → next.volume ≡ start.volume → GrownTo ready.new may_run.records [] (samples_of group) (with_run start.volume run.records run.items ready.new.files) next new → RunWritten m e next limit (run ∷ []) group now new
   run_written next new number g = record {
     new = g.0.new;
@@ -66,10 +77,7 @@ module _ (m : Meant) (e start : Ends) (held mid : Holdings) (limit : ℕ) (run :
     items_are = g.0.longer.items ∙ ap (λ xs. xs ++ samples_of group) ready.items_same;
     still = omega (arith, ready.still, g.0.acknowledged_is);
     acknowledged_is = g.0.acknowledged_is ∙ ready.acknowledged_is;
-    files_are = λ file. g.0.files_are file
-        ∙ added_same (Volume start.volume) run.items (with_added Meta run.records ready.new.files) (with_added Meta run.records (ready_files m.contents.label run.crossing e m.files))
-        (added_same Meta run.records ready.new.files (ready_files m.contents.label run.crossing e m.files) ready_are) file
-        ∙ ap (λ (k : ℕ). with_run k run.records run.items (ready_files m.contents.label run.crossing e m.files) file) (ap (λ (x : Ends). x.volume) start_is);
+    files_are = λ file. g.0.files_are file ∙ run_are file;
     all = subst (λ (k : ℕ). LogsAll m e.volume limit group g.0.new k) (sym number)
         (may_run.all g.0.new (grown_of ready.new may_run.records (samples_of group) (with_run start.volume run.records run.items ready.new.files) next.volume new g.0));
     at = record { stands = g.0.stands; ends = g.1 };
@@ -95,9 +103,6 @@ nothing_written m e limit group now after held at all =
     append_nil : (xs : List Item) → xs ++ [] ≡ xs
     append_nil [] = refl
     append_nil (x ∷ xs) = ap (λ ys. x ∷ ys) (append_nil xs)
-
-pub none_written : (m : Meant) (number limit : ℕ) (held new : Holdings) (group : List Told) → Stands m number held → OnlyGrows held new → AreWritten m number limit (take 0 group) new
-none_written m number limit held new group at grows = record { new = m; next = number; all = (refl, refl); stand = λ file. ((grows file).0, (grows file).1 ∙ ap (λ t. t ++ (grows file).0) (at.written file)) }
 
 module _ (m : Meant) (e next : Ends) (limit : ℕ) (run : Run) (runs : List Run) (group : List Told) (now : List MetaRecord) (after : Ends) (all : AreRuns m.contents.records e limit (run ∷ runs) group now after) (enough : AreAllEnough group) (next_is : next ≡ after_run e run) where
   both : AreAllEnough all.0 × AreAllEnough all.1
@@ -148,12 +153,18 @@ module _ (m : Meant) (e next : Ends) (limit : ℕ) (run : Run) (runs : List Run)
     }
 
     -- so many of the rest, and all of the first run
-    pub rest_first : (k n : ℕ) (new : Holdings) → n ≡ run.count + k → AreWritten w.new next.volume limit (take k all.1) new → AreWritten m e.volume limit (take n group) new
+    pub rest_first : (k n : ℕ) (new : Holdings) → n ≡ run.count + k → AreWritten w.new next.volume limit all.1 k new → AreWritten m e.volume limit group n new
     rest_first k n new is r = record {
       new = r.new;
       next = r.next;
       all = subst (λ gs. LogsAll m e.volume limit gs r.new r.next) (sym (front_is k n is)) (logs_then m w.new r.new e.volume next.volume r.next limit all.0 (take k all.1) w.all r.all);
       stand = r.stand;
+      run = r.run;
+      others = r.others;
+      behind = ap (drop n) all.2 ∙ ap (λ (x : ℕ). drop x (all.0 ++ all.1)) (is ∙ ap (λ (x : ℕ). x + k) all.5.count_is) ∙ drop-append-add all.0 all.1 k ∙ r.behind;
+      after = r.after;
+      would = r.would;
+      most = r.most;
     }
       where
         front_is : (i j : ℕ) → j ≡ run.count + i → take j group ≡ all.0 ++ take i all.1

@@ -1,5 +1,5 @@
 -- The stamps of an archive are moments, its label fits every volume, and files are read as one archive.
-use Rattle.std.proofs.Common.{zero, suc, ◌≡◌, inl, inr, ℕ, ℤ, ◌+◌, ◌<◌, pos, List, [], ◌∷◌, ◌++◌, length, sym, ap, ◌∙◌, subst, arith, length-append}
+use Rattle.std.proofs.Common.{zero, suc, ◌≡◌, inl, inr, ℕ, ℤ, ◌<◌, pos, List, [], ◌∷◌, length, sym, ap, subst, arith, length-append}
 use Rattle.std.specs.Prelude.{Contains}
 use Rattle.std.specs.Int.{w32}
 use Rattle.std.specs.List.{AllByRecursion}

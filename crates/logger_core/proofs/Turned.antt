@@ -10,7 +10,7 @@ use Rattle.pcp_model.specs.declared.records.Entry.{Entry}
 use Rattle.pcp_model.specs.Disk.{Files, Holdings}
 use Rattle.pcp_model.specs.LabelFields.{LabelFields}
 use Rattle.logger_core.specs.declared.ends.Ends.{Ends}
-use Rattle.logger_core.specs.LogSteps.{entries_put, switch_entry, with_new_volume}
+use Rattle.logger_core.specs.LogSteps.{base_files, entries_put, switch_entry, with_new_volume}
 use Rattle.logger_core.specs.Meant.{Meant, AreEnds, IsAt, SurvivesOf, items_in}
 use Rattle.logger_core.specs.Going.{HasRoomIfAny, LeadsToEnds, LeadIfAny, IsVolumeSure, GrowsBy, GrownTo, FlushIsDone, all_acknowledged}
 use Rattle.logger_core.specs.Planning.{due_at, switch_at}
@@ -87,58 +87,65 @@ switch_leads m e held at sure size = lead_if_any m e held (switch_entry e.greate
 
 -- ---- a switch
 
-module _ (m : Meant) (l : LabelFields) (e flush open_ now : Ends) (new mid : Holdings) (same_label : m.contents.label ≡ l) (f : FlushIsDone m e flush mid) (held : Holdings) (o : GrownTo f.new [] [] [] (with_new_volume l (flush.volume + 1) f.new.files) open_ held)
-    (numbers : flush.volume ≡ e.volume) (open_number : open_.volume ≡ flush.volume + 1) (open_greatest : open_.greatest ≡ flush.greatest) (greatest_same : flush.greatest ≡ e.greatest) (now_number : now.volume ≡ open_.volume)
-    (few : m.acknowledged ≤ length (items_in m))
-    (g : GrownTo o.0.new [] (option_to_list (switch_entry open_.greatest open_.index open_.volume open_.meta)) [] (with_entry (switch_entry open_.greatest open_.index open_.volume open_.meta) o.0.new.files) now new) where
+module _ (m : Meant) (l : LabelFields) (e flush : Ends) (mid : Holdings) (same_label : m.contents.label ≡ l) (f : FlushIsDone m e flush mid) (numbers : flush.volume ≡ e.volume) where
   abbrev flushed_files : Files
   flushed_files = with_entry (due_in m.files m.contents e.volume e.greatest) m.files
 
-  number_is : open_.volume ≡ e.volume + 1
-  number_is = open_number ∙ ap (λ (n : ℕ). n + 1) numbers
-
-  greatest_is : open_.greatest ≡ e.greatest
-  greatest_is = open_greatest ∙ greatest_same
-
-  opened_are : (file : FileId) → o.0.new.files file ≡ with_new_volume m.contents.label (e.volume + 1) flushed_files file
-  opened_are file =
-      o.0.files_are file ∙ ap (λ (n : ℕ). with_new_volume l (n + 1) f.new.files file) numbers ∙ ap (λ x. with_new_volume x (e.volume + 1) f.new.files file) (sym same_label)
+  pub opened_files : (file : FileId) → with_new_volume l (flush.volume + 1) f.new.files file ≡ with_new_volume m.contents.label (e.volume + 1) flushed_files file
+  opened_files file =
+      ap (λ (n : ℕ). with_new_volume l (n + 1) f.new.files file) numbers ∙ ap (λ x. with_new_volume x (e.volume + 1) f.new.files file) (sym same_label)
       ∙ added_same (Volume (e.volume + 1)) (label m.contents.label (pos (e.volume + 1))) f.new.files flushed_files f.files_are file
 
-  index_is : open_.index ≡ length (flushed_files Index)
-  index_is = o.1.index ∙ ap length (opened_are Index)
+  module _ (open_ : Ends) (held : Holdings) (o : GrownTo f.new [] [] [] (with_new_volume l (flush.volume + 1) f.new.files) open_ held) (open_number : open_.volume ≡ flush.volume + 1) (open_greatest : open_.greatest ≡ flush.greatest) (greatest_same : flush.greatest ≡ e.greatest) where
+    number_is : open_.volume ≡ e.volume + 1
+    number_is = open_number ∙ ap (λ (n : ℕ). n + 1) numbers
 
-  meta_is : open_.meta ≡ length (flushed_files Meta)
-  meta_is = o.1.meta ∙ ap length (opened_are Meta)
+    greatest_is : open_.greatest ≡ e.greatest
+    greatest_is = open_greatest ∙ greatest_same
 
-  entry_is : switch_entry open_.greatest open_.index open_.volume open_.meta ≡ switch_entry e.greatest (length (flushed_files Index)) (e.volume + 1) (length (flushed_files Meta))
-  entry_is =
-      ap (λ (t : Option Moment). switch_entry t open_.index open_.volume open_.meta) greatest_is
-      ∙ ap (λ (n : ℕ). switch_entry e.greatest n open_.volume open_.meta) index_is
-      ∙ ap (λ (n : ℕ). switch_entry e.greatest (length (flushed_files Index)) n open_.meta) number_is
-      ∙ ap (λ (n : ℕ). switch_entry e.greatest (length (flushed_files Index)) (e.volume + 1) n) meta_is
+    opened_are : (file : FileId) → o.0.new.files file ≡ with_new_volume m.contents.label (e.volume + 1) flushed_files file
+    opened_are file = o.0.files_are file ∙ opened_files file
 
-  switched_entries : g.0.new.contents.entries ≡ m.contents.entries ++ entries_put true m.files m.contents e.volume e.greatest
-  switched_entries =
-      g.0.longer.entries ∙ ap (λ x. o.0.new.contents.entries ++ option_to_list x) entry_is
-      ∙ ap (λ es. es ++ option_to_list (switch_entry e.greatest (length (flushed_files Index)) (e.volume + 1) (length (flushed_files Meta)))) (o.0.longer.entries ∙ append-nil f.new.contents.entries ∙ f.entries_are)
-      ∙ append_assoc m.contents.entries (option_to_list (due_in m.files m.contents e.volume e.greatest)) (option_to_list (switch_entry e.greatest (length (flushed_files Index)) (e.volume + 1) (length (flushed_files Meta))))
+    index_is : open_.index ≡ length (flushed_files Index)
+    index_is = o.1.index ∙ ap length (opened_are Index)
 
-  pub switched_ready : IsReady m e now true new
-  switched_ready = record {
-    new = g.0.new;
-    started = g.0.started ∙ o.0.started ∙ f.started;
-    label_same = g.0.longer.label ∙ o.0.longer.label ∙ f.label_same;
-    records_same = g.0.longer.records ∙ append-nil o.0.new.contents.records ∙ o.0.longer.records ∙ append-nil f.new.contents.records ∙ f.records_same;
-    entries_are = switched_entries;
-    items_same = g.0.longer.items ∙ append-nil (items_in o.0.new) ∙ o.0.longer.items ∙ append-nil (items_in f.new) ∙ f.items_same;
-    still = omega (arith, few, g.0.acknowledged_is, o.0.acknowledged_is, f.all);
-    acknowledged_is = g.0.acknowledged_is ∙ o.0.acknowledged_is ∙ f.all;
-    files_are = λ file. g.0.files_are file ∙ ap (λ x. with_entry x o.0.new.files file) entry_is
-        ∙ entry_same (switch_entry e.greatest (length (flushed_files Index)) (e.volume + 1) (length (flushed_files Meta))) o.0.new.files (with_new_volume m.contents.label (e.volume + 1) flushed_files) opened_are file;
-    number = now_number ∙ number_is;
-    at = record { stands = g.0.stands; ends = g.1 };
-  }
+    meta_is : open_.meta ≡ length (flushed_files Meta)
+    meta_is = o.1.meta ∙ ap length (opened_are Meta)
+
+    entry_is : switch_entry open_.greatest open_.index open_.volume open_.meta ≡ switch_entry e.greatest (length (flushed_files Index)) (e.volume + 1) (length (flushed_files Meta))
+    entry_is =
+        ap (λ (t : Option Moment). switch_entry t open_.index open_.volume open_.meta) greatest_is
+        ∙ ap (λ (n : ℕ). switch_entry e.greatest n open_.volume open_.meta) index_is
+        ∙ ap (λ (n : ℕ). switch_entry e.greatest (length (flushed_files Index)) n open_.meta) number_is
+        ∙ ap (λ (n : ℕ). switch_entry e.greatest (length (flushed_files Index)) (e.volume + 1) n) meta_is
+
+    pub switched_base : (file : FileId) → with_entry (switch_entry open_.greatest open_.index open_.volume open_.meta) o.0.new.files file ≡ base_files true m.files m.contents e.volume e.greatest file
+    switched_base file =
+        ap (λ x. with_entry x o.0.new.files file) entry_is
+        ∙ entry_same (switch_entry e.greatest (length (flushed_files Index)) (e.volume + 1) (length (flushed_files Meta))) o.0.new.files (with_new_volume m.contents.label (e.volume + 1) flushed_files) opened_are file
+
+    module _ (now : Ends) (new : Holdings) (now_number : now.volume ≡ open_.volume) (few : m.acknowledged ≤ length (items_in m))
+        (g : GrownTo o.0.new [] (option_to_list (switch_entry open_.greatest open_.index open_.volume open_.meta)) [] (with_entry (switch_entry open_.greatest open_.index open_.volume open_.meta) o.0.new.files) now new) where
+      switched_entries : g.0.new.contents.entries ≡ m.contents.entries ++ entries_put true m.files m.contents e.volume e.greatest
+      switched_entries =
+          g.0.longer.entries ∙ ap (λ x. o.0.new.contents.entries ++ option_to_list x) entry_is
+          ∙ ap (λ es. es ++ option_to_list (switch_entry e.greatest (length (flushed_files Index)) (e.volume + 1) (length (flushed_files Meta)))) (o.0.longer.entries ∙ append-nil f.new.contents.entries ∙ f.entries_are)
+          ∙ append_assoc m.contents.entries (option_to_list (due_in m.files m.contents e.volume e.greatest)) (option_to_list (switch_entry e.greatest (length (flushed_files Index)) (e.volume + 1) (length (flushed_files Meta))))
+
+      pub switched_ready : IsReady m e now true new
+      switched_ready = record {
+        new = g.0.new;
+        started = g.0.started ∙ o.0.started ∙ f.started;
+        label_same = g.0.longer.label ∙ o.0.longer.label ∙ f.label_same;
+        records_same = g.0.longer.records ∙ append-nil o.0.new.contents.records ∙ o.0.longer.records ∙ append-nil f.new.contents.records ∙ f.records_same;
+        entries_are = switched_entries;
+        items_same = g.0.longer.items ∙ append-nil (items_in o.0.new) ∙ o.0.longer.items ∙ append-nil (items_in f.new) ∙ f.items_same;
+        still = omega (arith, few, g.0.acknowledged_is, o.0.acknowledged_is, f.all);
+        acknowledged_is = g.0.acknowledged_is ∙ o.0.acknowledged_is ∙ f.all;
+        files_are = λ file. g.0.files_are file ∙ switched_base file;
+        number = now_number ∙ number_is;
+        at = record { stands = g.0.stands; ends = g.1 };
+      }
 
 pub ready_already : (m : Meant) (e : Ends) (held : Holdings) → IsAt m e held → IsReady m e e false held
 ready_already m e held at = record { new = m; started = refl; label_same = refl; records_same = refl; entries_are = sym (append-nil m.contents.entries); items_same = refl; still = omega arith; acknowledged_is = refl; files_are = λ file. refl; number = refl; at = at }
@@ -196,6 +203,6 @@ pub switch_ok : {E : Type 0} (m : Meant) (l : LabelFields) (e flush open_ : Ends
     → flush.volume ≡ e.volume → open_.volume ≡ flush.volume + 1 → open_.greatest ≡ flush.greatest → flush.greatest ≡ e.greatest → found ≡ switch_at open_
     → IfOk result (λ now. GrownTo o.0.new [] (option_to_list found) [] (with_entry found o.0.new.files) now new) → IfOk result (λ now. (now.volume ≡ open_.volume) × (now.greatest ≡ open_.greatest) × (now.meta ≡ open_.meta) × (now.length ≡ open_.length)) → IfOk result (λ now. IsReady m e now true new)
 switch_ok m l e flush open_ held mid mid2 new found (Ok now) at same f o numbers number stamp greatest is g kept =
-    switched_ready m l e flush open_ now new mid same f mid2 o numbers number stamp greatest kept.0 (few_acknowledged m e.volume held at.stands)
+    switched_ready m l e flush mid same f numbers open_ mid2 o number stamp greatest now new kept.0 (few_acknowledged m e.volume held at.stands)
     (subst (λ (p : Option Entry). GrownTo o.0.new [] (option_to_list p) [] (with_entry p o.0.new.files) now new) is g)
 switch_ok m l e flush open_ held mid mid2 new found (Err x) at same f o numbers number stamp greatest is g kept = tt

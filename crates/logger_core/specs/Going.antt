@@ -109,3 +109,11 @@ pub record IsFlushed (m : Meant) (old now : Kept) (held : Holdings) : Type 0 whe
 -- no file lost a byte: each holds what it held, and perhaps more behind it
 abbrev pub OnlyGrows : Holdings → Holdings → Type 0
 OnlyGrows old new = (file : FileId) → (more : List ℕ) × (bytes_of (new file) ≡ bytes_of (old file) ++ more)
+
+-- the disk holds these files
+abbrev pub AreHeld : Files → Holdings → Type 0
+AreHeld files held = (file : FileId) → bytes_of (held file) ≡ files file
+
+-- the disk holds a beginning of each of these files
+abbrev pub HoldsNoMore : Files → Holdings → Type 0
+HoldsNoMore files held = (file : FileId) → (more : List ℕ) × (files file ≡ bytes_of (held file) ++ more)

@@ -1,5 +1,5 @@
 -- Several results that are logged together: the files and the items are those of one after another.
-use Rattle.std.specs.Prelude.{◌≡◌, ◌⊎◌, ℕ, ◌+◌, ◌<◌, ◌≤◌, true, false, List, [], ◌∷◌, ◌++◌, length, take, slice_get, Some}
+use Rattle.std.specs.Prelude.{◌≡◌, ◌⊎◌, ℕ, ◌+◌, ◌<◌, ◌≤◌, true, false, List, [], ◌∷◌, ◌++◌, length, take, drop, slice_get, Some}
 use Rattle.std.specs.List.{AllByRecursion}
 use Rattle.pcp_base.specs.Results.{Fits}
 use Rattle.pcp_base.specs.declared.file.FileId.{FileId}
@@ -17,7 +17,7 @@ use Rattle.archive_meta.specs.Missing.{framed_records}
 use Rattle.logger_core.specs.declared.ends.Ends.{Ends}
 use Rattle.logger_core.specs.declared.fault.LogFault.{LogFault}
 use Rattle.logger_core.specs.declared.fault.LogFault.TheVariants.{Closed, Large, NotLater, Changed, Full, NoMemory, DiskFault}
-use Rattle.logger_core.specs.Going.{acknowledged_before}
+use Rattle.logger_core.specs.Going.{HoldsNoMore, acknowledged_before}
 use Rattle.logger_core.specs.Logging.{IsLogged, IsLoggable, IsRefused, closed_with}
 use Rattle.logger_core.specs.LogSteps.{LogStep, base_number, crosses, entries_put}
 use Rattle.logger_core.specs.Meant.{Meant, Kept, IsLogger}
@@ -106,12 +106,29 @@ GroupMayAnswer old now group before after k DiskFault = (old.closed ≡ false) �
 abbrev pub HoldsAll : Files → Holdings → Type 0
 HoldsAll files held = (file : FileId) → (more : List ℕ) × (bytes_of (held file) ≡ files file ++ more)
 
--- the first so many were written: all that is then meant stands on the disk
-pub record AreWritten (m : Meant) (number limit : ℕ) (group : List Told) (held : Holdings) : Type 0 where
+-- These results may be written as one run behind this archive, which is this one then: only the first may go into the next volume.
+pub record AreOneRun (m : Meant) (number limit : ℕ) (group : List Told) (n : Meant) : Type 0 where
+  pub first : Told
+  pub rest : List Told
+  pub are : group ≡ first ∷ rest
+  pub mid : Meant
+  pub at : ℕ
+  pub one : LogsOne m number limit first.0 first.1 mid at
+  pub all : LogsAll mid at limit rest n at
+
+-- The first so many were written: all that is then meant stands on the disk, and no more than a beginning of what the one run behind
+-- them would leave.
+pub record AreWritten (m : Meant) (number limit : ℕ) (group : List Told) (k : ℕ) (held : Holdings) : Type 0 where
   pub new : Meant
   pub next : ℕ
-  pub all : LogsAll m number limit group new next
+  pub all : LogsAll m number limit (take k group) new next
   pub stand : HoldsAll new.files held
+  pub run : List Told
+  pub others : List Told
+  pub behind : drop k group ≡ run ++ others
+  pub after : Meant
+  pub would : AreOneRun new next limit run after
+  pub most : HoldsNoMore after.files held
 
 -- What a refusal leaves: those before the refused one, logged; or where the disk failed, written.
 abbrev pub LeavesFirst : Meant → Kept → Kept → List Told → Holdings → ℕ → LogFault → Type 0
@@ -121,7 +138,7 @@ LeavesFirst m old now group held k (NotLater last) = AreLogged m old now (take k
 LeavesFirst m old now group held k (Changed pmid) = AreLogged m old now (take k group) held
 LeavesFirst m old now group held k (Full file bytes) = AreLogged m old now (take k group) held
 LeavesFirst m old now group held k NoMemory = IsLogger m now held
-LeavesFirst m old now group held k DiskFault = AreWritten m old.ends.volume old.limit (take k group) held
+LeavesFirst m old now group held k DiskFault = AreWritten m old.ends.volume old.limit group k held
 
 -- A group of one is logged as one result is.
 abbrev pub GroupOfOneIsLogged : Type 0

@@ -1,5 +1,5 @@
 -- A logger that holds results to be written together, and what its archive will be once they are.
-use Rattle.std.specs.Prelude.{◌≡◌, ◌⊎◌, ℕ, ◌+◌, ◌<◌, ◌≤◌, true, false, List, [], ◌∷◌, ◌++◌, length, take}
+use Rattle.std.specs.Prelude.{◌≡◌, ◌⊎◌, ℕ, ◌+◌, ◌<◌, ◌≤◌, true, false, List, [], ◌∷◌, ◌++◌, length}
 use Rattle.pcp_base.specs.declared.file.FileId.{FileId}
 use Rattle.pcp_base.specs.declared.result.PmResult.{PmResult}
 use Rattle.pcp_model.specs.Disk.{Files, Holdings}
@@ -108,9 +108,9 @@ WriteMayAnswer old new before after k Closed = (k ≡ 0) × (old.kept.closed ≡
 WriteMayAnswer old new before after k DiskFault = (old.kept.closed ≡ false) × (new ≡ closed_back old) × (k < counts_of old.runs) × Rose before after
 WriteMayAnswer old new before after k fault = ⊥
 
--- Where the disk failed, the first so many are written, and a run began behind them.
+-- Where the disk failed, the first so many are written, and no more than one run behind them, which begins there.
 pub record IsStopped (m : Meant) (old : HeldBack) (pending : List Told) (held : Holdings) (k : ℕ) : Type 0 where
-  pub written : AreWritten m old.kept.ends.volume old.kept.limit (take k pending) held
+  pub written : AreWritten m old.kept.ends.volume old.kept.limit pending k held
   pub begins : BeginsRun m.contents.records old.kept.ends old.kept.limit pending k
 
 -- ---- nothing held

@@ -87,12 +87,7 @@ impl Batch {
 
     /// Judges a result where the files will end once all that is held is written, and holds it. Nothing is written. `facts` are as for
     /// `Logger::log`. A refusal, for want of memory too, leaves all as it was.
-    pub fn hold(
-        &mut self,
-        alloc: Global,
-        answer: &PmResult,
-        facts: &Facts,
-    ) -> Result<(), LogFault>
+    pub fn hold(&mut self, alloc: Global, answer: &PmResult, facts: &Facts) -> Result<(), LogFault>
         requires some { 0 < length answer.now.sets }
         requires fits { AllByRecursion Fits answer.now.sets }
         requires room { counts_of self.old.runs < 64 }

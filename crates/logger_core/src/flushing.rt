@@ -1,12 +1,13 @@
 //! The writes of a flush: the volume is made sure, and then an entry put behind the index.
 ghost use Rattle.std.specs.Prelude.{◌≡◌, IfOk};
+ghost use Rattle.pcp_model.specs.Disk.{Files};
 ghost use Rattle.pcp_outside.specs.Causes.{HasCause};
 ghost use Rattle.pcp_outside.specs.Devices.{LeavesOnly};
 ghost use Rattle.std.specs.Prelude.{[], ◌∷◌, option_to_list, Some};
-ghost use Rattle.logger_core.specs.Going.{AreSmall, all_acknowledged, all_counted, IsVolumeSure, GrownTo, LeadsToEnds, LeadIfAny, HasRoom, HasRoomIfAny, FlushIsDone, OnlyGrows};
+ghost use Rattle.logger_core.specs.Going.{AreSmall, all_acknowledged, all_counted, IsVolumeSure, GrownTo, LeadsToEnds, LeadIfAny, HasRoom, HasRoomIfAny, FlushIsDone, AreHeld, HoldsNoMore, OnlyGrows};
 ghost use Rattle.logger_core.specs.Meant.{Meant, IsAt, SurvivesOf};
 ghost use Rattle.logger_core.specs.Planning.{with_put, flushed_ends};
-ghost use Rattle.logger_core.specs.Steps.{with_entry};
+ghost use Rattle.logger_core.specs.Steps.{due_in, with_entry};
 
 use crate::ends::Ends;
 use crate::entries::due;
@@ -23,6 +24,7 @@ pub(crate) fn sync_volume<D: Disk>(disk: &mut D, ends: &Ends) -> Result<Ends, Fa
     ensures any_moment { D.tells → (m : Meant) → IsAt m ends.now (D.held disk.old) → LeavesOnly D.moment D.left_since disk.old disk.new (SurvivesOf m) }
     ensures counted { IfOk result (λ e. e ≡ all_counted ends.now) }
     ensures grows { D.tells → OnlyGrows (D.held disk.old) (D.held disk.new) }
+    ensures most { D.tells → (files : Files) → AreHeld files (D.held disk.old) → HoldsNoMore files (D.held disk.new) }
     ensures small { IfOk result AreSmall }
     ensures same { IfOk result (λ e. (e.volume ≡ ends.now.volume) × (e.greatest ≡ ends.now.greatest) × (e.meta ≡ ends.now.meta) × (e.length ≡ ends.now.length)) }
     ensures cause { HasCause (D.faults disk.old) (D.faults disk.new) result }
@@ -40,6 +42,7 @@ fn put_entry<D: Disk>(disk: &mut D, ends: &Ends, entry: Entry) -> Result<Ends, F
     ensures any_moment { D.tells → (m : Meant) → IsAt m ends.now (D.held disk.old) → LeadsToEnds m ends.now (D.held disk.old) entry → LeavesOnly D.moment D.left_since disk.old disk.new (SurvivesOf m) }
     ensures exact { IfOk result (λ e. e ≡ with_put (Some entry) ends.now) }
     ensures grows { D.tells → OnlyGrows (D.held disk.old) (D.held disk.new) }
+    ensures most { D.tells → (files : Files) → AreHeld files (D.held disk.old) → HoldsNoMore (with_entry (Some entry) files) (D.held disk.new) }
     ensures small { IfOk result AreSmall }
     ensures same { IfOk result (λ e. (e.volume ≡ ends.now.volume) × (e.greatest ≡ ends.now.greatest) × (e.meta ≡ ends.now.meta) × (e.length ≡ ends.now.length)) }
     ensures cause { HasCause (D.faults disk.old) (D.faults disk.new) result }
@@ -62,6 +65,7 @@ pub(crate) fn add_entry<D: Disk>(
     ensures any_moment { D.tells → (m : Meant) → IsAt m ends.now (D.held disk.old) → LeadIfAny m ends.now (D.held disk.old) entry → LeavesOnly D.moment D.left_since disk.old disk.new (SurvivesOf m) }
     ensures exact { IfOk result (λ e. e ≡ with_put entry ends.now) }
     ensures grows { D.tells → OnlyGrows (D.held disk.old) (D.held disk.new) }
+    ensures most { D.tells → (files : Files) → AreHeld files (D.held disk.old) → HoldsNoMore (with_entry entry files) (D.held disk.new) }
     ensures small { IfOk result AreSmall }
     ensures same { IfOk result (λ e. (e.volume ≡ ends.now.volume) × (e.greatest ≡ ends.now.greatest) × (e.meta ≡ ends.now.meta) × (e.length ≡ ends.now.length)) }
     ensures cause { HasCause (D.faults disk.old) (D.faults disk.new) result }
@@ -80,6 +84,7 @@ pub(crate) fn flush_files<D: Disk>(disk: &mut D, ends: &Ends) -> Result<Ends, Fa
     ensures sure { D.tells → IfOk result (λ e. IsVolumeSure e.volume (D.held disk.new)) }
     ensures exact { IfOk result (λ e. e ≡ flushed_ends ends.now) }
     ensures grows { D.tells → OnlyGrows (D.held disk.old) (D.held disk.new) }
+    ensures most { D.tells → (m : Meant) → IsAt m ends.now (D.held disk.old) → HoldsNoMore (with_entry (due_in m.files m.contents ends.now.volume ends.now.greatest) m.files) (D.held disk.new) }
     ensures small { IfOk result AreSmall }
     ensures same { IfOk result (λ e. (e.volume ≡ ends.now.volume) × (e.greatest ≡ ends.now.greatest) × (e.meta ≡ ends.now.meta) × (e.length ≡ ends.now.length)) }
     ensures cause { HasCause (D.faults disk.old) (D.faults disk.new) result }

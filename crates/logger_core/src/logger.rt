@@ -367,8 +367,8 @@ impl Logger {
         ensures fault { IfErr result (HoldMayAnswer (record { kept = self.old; runs = group.old.runs; planned = group.old.planned }) answer.now facts.now) }
         ensures still { OnErr result ((self.new ≡ self.old) × (group.new ≡ group.old)) }
     {
-        let is_closed = self.closed;
-        if is_closed {
+        let closed = self.closed;
+        if closed {
             return Err(LogFault::Closed);
         }
         hold(&mut self.meta, alloc, group, self.limit, answer, facts)
@@ -388,7 +388,7 @@ impl Logger {
         ensures any_moment { D.tells → (m : Meant) (limit : ℕ) (pending : Sequence Told) (now : Sequence Record) (after : Numbers) → IsAt m self.old.ends (D.held disk.old) → m.contents.label ≡ self.old.label → AreRuns m.contents.records self.old.ends limit group.old.runs pending now after → AreAllEnough pending
             → LeavesOnly D.moment D.left_since disk.old disk.new (SurvivesWith m (samples_of pending)) }
         ensures written { D.tells → (m : Meant) (limit : ℕ) (pending : Sequence Told) (now : Sequence Record) (after : Numbers) → IsAt m self.old.ends (D.held disk.old) → m.contents.label ≡ self.old.label → AreRuns m.contents.records self.old.ends limit group.old.runs pending now after → AreAllEnough pending
-            → IfErr result (λ e. e.1 ≡ DiskFault → AreWritten m self.old.ends.volume limit (take e.0 pending) (D.held disk.new)) }
+            → IfErr result (λ e. e.1 ≡ DiskFault → AreWritten m self.old.ends.volume limit pending e.0 (D.held disk.new)) }
         ensures begins { (records : Sequence Record) (limit : ℕ) (pending : Sequence Told) (now : Sequence Record) (after : Numbers) → AreRuns records self.old.ends limit group.old.runs pending now after → IfErr result (λ e. e.1 ≡ DiskFault → BeginsRun records self.old.ends limit pending e.0) }
         ensures emptied { OnOk result ((self.old.closed ≡ false) × (self.new ≡ ending_at (after_runs self.old.ends group.old.runs) self.old) × (group.new ≡ record { runs = []; planned = group.old.planned })) }
         ensures closed { self.old.closed ≡ true → (result ≡ Err (0, Closed)) × (self.new ≡ self.old) × (group.new ≡ group.old) × (disk.new ≡ disk.old) }
@@ -455,9 +455,10 @@ impl Logger {
 
     /// Logs several results, at most 64, one behind another. They are cut into runs: a run ends before the result whose record
     /// would open the next volume. For each run all metadata that are missing are appended and synced, and then all records are
-    /// appended. A refusal tells the position of its result in the group, from 0: the results before it are logged, and no other.
-    /// `NoMemory` comes before the first write and changes nothing, with 0. After `DiskFault` the number counts the results of the
-    /// runs that were written whole. Each result and its facts are as for `log`.
+    /// appended. `Closed` and `NoMemory` come before the first write, with 0, and change nothing. `DiskFault` closes the logger, and
+    /// its number counts the results of the runs that were written whole: of the next run some bytes may stand behind them. Every
+    /// other refusal tells the position of its result in the group, from 0: the results before it are logged, and no other. Each
+    /// result and its facts are as for `log`.
     pub fn log_all<D: Disk>(
         &mut self,
         alloc: Global,
@@ -479,8 +480,11 @@ impl Logger {
         // Each refusal has its cause, and its result may not be logged where it comes; a fault of the disk comes where a run began,
         // and closes the logger.
         ensures fault { IfErr result (λ e. GroupMayAnswer self.old self.new group.now (D.faults disk.old) (D.faults disk.new) e.0 e.1) }
-        // The results before the refused one are logged; where the disk failed, those before that run are written.
+        // The results before the refused one are logged; where the disk failed those before that run are written, and no more than a
+        // beginning of what that run would leave.
         ensures first { D.tells → AreAllEnough group.now → (m : Meant) → IsLogger m self.old (D.held disk.old) → IfErr result (λ e. LeavesFirst m self.old self.new group.now (D.held disk.new) e.0 e.1) }
+        // A crash at any moment of a call that refuses a result leaves none of it, and none behind it.
+        ensures refused { D.tells → AreAllEnough group.now → (m : Meant) → IsLogger m self.old (D.held disk.old) → IfErr result (λ e. e.1 ≢ DiskFault → LeavesOnly D.moment D.left_since disk.old disk.new (SurvivesWith m (samples_of (take e.0 group.now)))) }
         // A refusal of the first result that isn't a fault of the disk leaves the disk untouched.
         ensures untouched { IfErr result (λ e. e.0 ≡ 0 → e.1 ≢ DiskFault → disk.new ≡ disk.old) }
         ensures later { D.faults disk.old ≤ D.faults disk.new }

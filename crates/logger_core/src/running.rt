@@ -3,11 +3,12 @@ ghost use Rattle.std.specs.Prelude.{◌≡◌, ◌≤◌, ◌+◌, ◌<◌, ℕ,
 ghost use Rattle.pcp_base.specs.declared.file.FileId.TheVariants.{Meta, Volume};
 ghost use Rattle.pcp_base.specs.declared.result.Item.{Item as Logged};
 ghost use Rattle.pcp_model.specs.declared.records.MetaRecord.{MetaRecord as Record};
+ghost use Rattle.pcp_model.specs.Disk.{Files};
 ghost use Rattle.pcp_model.specs.Frame.{frames};
 ghost use Rattle.pcp_model.specs.Written.{with_added};
 ghost use Rattle.pcp_outside.specs.Causes.{HasCause};
 ghost use Rattle.pcp_outside.specs.Devices.{LeavesOnly};
-ghost use Rattle.logger_core.specs.Going.{AreSmall, GrowsBy, GrownTo, OnlyGrows};
+ghost use Rattle.logger_core.specs.Going.{AreSmall, AreHeld, GrowsBy, GrownTo, HoldsNoMore, OnlyGrows};
 ghost use Rattle.logger_core.specs.Laws.{AreRecordsToCome};
 ghost use Rattle.logger_core.specs.LogSteps.{with_run};
 ghost use Rattle.logger_core.specs.Meant.{Meant, Stands, IsAt, SurvivesOf};
@@ -26,6 +27,7 @@ fn add_records<D: Disk>(disk: &mut D, number: u32, bytes: &[u8]) -> Result<(), F
     ensures any_moment { D.tells → (m : Meant) → Stands m number (D.held disk.old) → (payloads : Sequence (Sequence ℕ)) (records : Sequence Record) → bytes.now ≡ frames payloads → AreRecordsToCome m.start m.contents payloads records
         → LeavesOnly D.moment D.left_since disk.old disk.new (SurvivesOf m) }
     ensures grows { D.tells → OnlyGrows (D.held disk.old) (D.held disk.new) }
+    ensures most { D.tells → (files : Files) → AreHeld files (D.held disk.old) → HoldsNoMore (with_added Meta bytes.now files) (D.held disk.new) }
     ensures cause { HasCause (D.faults disk.old) (D.faults disk.new) result }
 {
     if bytes.is_empty() {
@@ -42,6 +44,7 @@ fn add_items<D: Disk>(disk: &mut D, number: u32, bytes: &[u8]) -> Result<(), Fai
     ensures any_moment { D.tells → (m : Meant) → Stands m number (D.held disk.old) → (payloads : Sequence (Sequence ℕ)) (items : Sequence Logged) → bytes.now ≡ frames payloads → AreItemsToCome m payloads items
         → LeavesOnly D.moment D.left_since disk.old disk.new (SurvivesWith m items) }
     ensures grows { D.tells → OnlyGrows (D.held disk.old) (D.held disk.new) }
+    ensures most { D.tells → (files : Files) → AreHeld files (D.held disk.old) → HoldsNoMore (with_added (Volume number) bytes.now files) (D.held disk.new) }
     ensures cause { HasCause (D.faults disk.old) (D.faults disk.new) result }
 {
     disk.append(FileId::Volume(number), bytes)
@@ -67,6 +70,8 @@ pub(crate) fn write_run<D: Disk>(
     ensures small { IfOk result AreSmall }
     ensures exact { IfOk result (λ e. e ≡ ran_ends (length records.now) (length items.now) count stamp ends.now) }
     ensures grows { D.tells → OnlyGrows (D.held disk.old) (D.held disk.new) }
+    ensures most { D.tells → (m : Meant) → IsAt m ends.now (D.held disk.old) → (rs : Sequence Record) (xs : Sequence Logged) → IsRunToCome m rs xs records.now items.now
+        → HoldsNoMore (with_run ends.now.volume records.now items.now m.files) (D.held disk.new) }
     ensures cause { HasCause (D.faults disk.old) (D.faults disk.new) result }
 {
     add_records(disk, ends.volume, records)?;

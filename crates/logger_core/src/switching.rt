@@ -1,9 +1,10 @@
 //! The switch to the next volume: a flush, the next volume's label, made sure, and an entry that leads to it.
 ghost use Rattle.std.specs.Prelude.{◌≡◌, ◌<◌, ◌+◌, [], true, false, IfOk};
+ghost use Rattle.pcp_model.specs.Disk.{Files};
 ghost use Rattle.pcp_outside.specs.Causes.{HasCause};
 ghost use Rattle.pcp_outside.specs.Devices.{LeavesOnly};
-ghost use Rattle.logger_core.specs.Going.{AreSmall, IsVolumeSure, GrownTo, OnlyGrows};
-ghost use Rattle.logger_core.specs.LogSteps.{crosses, with_new_volume};
+ghost use Rattle.logger_core.specs.Going.{AreSmall, IsVolumeSure, GrownTo, AreHeld, HoldsNoMore, OnlyGrows};
+ghost use Rattle.logger_core.specs.LogSteps.{base_files, crosses, with_new_volume};
 ghost use Rattle.logger_core.specs.Meant.{Meant, IsAt, SurvivesOf};
 ghost use Rattle.logger_core.specs.Planning.{opened_ends, switched_ends, ready_ends};
 ghost use Rattle.logger_core.specs.Runs.{IsReady};
@@ -35,6 +36,7 @@ fn open_next<D: Disk>(disk: &mut D, label: &Label, ends: &Ends) -> Result<Ends, 
     ensures small { IfOk result AreSmall }
     ensures exact { IfOk result (λ e. e ≡ opened_ends ends.now) }
     ensures grows { D.tells → OnlyGrows (D.held disk.old) (D.held disk.new) }
+    ensures most { D.tells → (files : Files) → AreHeld files (D.held disk.old) → HoldsNoMore (with_new_volume label.now (ends.now.volume + 1) files) (D.held disk.new) }
     ensures same { IfOk result (λ e. (e.volume ≡ ends.now.volume + 1) × (e.greatest ≡ ends.now.greatest) × (e.meta ≡ ends.now.meta) × (e.index ≡ ends.now.index) × (e.length ≡ 132)) }
     ensures cause { HasCause (D.faults disk.old) (D.faults disk.new) result }
 {
@@ -53,6 +55,7 @@ fn switch<D: Disk>(disk: &mut D, label: &Label, ends: &Ends) -> Result<Ends, Fai
     ensures small { IfOk result AreSmall }
     ensures exact { IfOk result (λ e. e ≡ switched_ends ends.now) }
     ensures grows { D.tells → OnlyGrows (D.held disk.old) (D.held disk.new) }
+    ensures most { D.tells → (m : Meant) → IsAt m ends.now (D.held disk.old) → m.contents.label ≡ label.now → HoldsNoMore (base_files true m.files m.contents ends.now.volume ends.now.greatest) (D.held disk.new) }
     ensures bounded { IfOk result (λ e. (e.length ≡ 132) × (e.meta ≡ ends.now.meta)) }
     ensures cause { HasCause (D.faults disk.old) (D.faults disk.new) result }
 {
@@ -76,6 +79,7 @@ pub(crate) fn make_room<D: Disk>(
     ensures small { IfOk result AreSmall }
     ensures exact { IfOk result (λ e. e ≡ ready_ends crossing ends.now) }
     ensures grows { D.tells → OnlyGrows (D.held disk.old) (D.held disk.new) }
+    ensures most { D.tells → (m : Meant) → IsAt m ends.now (D.held disk.old) → m.contents.label ≡ label.now → HoldsNoMore (base_files crossing m.files m.contents ends.now.volume ends.now.greatest) (D.held disk.new) }
     ensures bounded { IfOk result (λ e. (crossing ≡ true → e.length ≡ 132) × (crossing ≡ false → e.length ≡ ends.now.length) × (e.meta ≡ ends.now.meta)) }
     ensures cause { HasCause (D.faults disk.old) (D.faults disk.new) result }
 {

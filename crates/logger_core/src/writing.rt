@@ -1,12 +1,12 @@
 //! The writes of the runs that are held, one run after another. No memory is taken.
-ghost use Rattle.std.specs.Prelude.{◌≡◌, ◌<◌, ◌≤◌, ℕ, [], ◌∷◌, List as Sequence, IfOk, IfErr, take};
+ghost use Rattle.std.specs.Prelude.{◌≡◌, ◌<◌, ◌≤◌, ℕ, [], ◌∷◌, List as Sequence, IfOk, IfErr};
 ghost use Rattle.pcp_model.specs.declared.records.MetaRecord.{MetaRecord as Record};
 ghost use Rattle.pcp_outside.specs.Causes.{HasCause};
 ghost use Rattle.pcp_outside.specs.Devices.{LeavesOnly};
 ghost use Rattle.logger_core.specs.declared.ends.Ends.{Ends as Numbers};
-ghost use Rattle.logger_core.specs.Going.{AreSmall, OnlyGrows};
+ghost use Rattle.logger_core.specs.Going.{AreSmall, HoldsNoMore, OnlyGrows};
 ghost use Rattle.logger_core.specs.Grouping.{AreAllEnough, AreWritten, BeginsRun, Told, samples_of};
-ghost use Rattle.logger_core.specs.Held.{AreRuns, AreRunsBounded, IsRunBounded, IsRunOf, RunWritten, after_run, after_runs, counts_of};
+ghost use Rattle.logger_core.specs.Held.{AreRuns, AreRunsBounded, IsRunBounded, IsRunOf, RunWritten, after_run, after_runs, counts_of, run_files};
 ghost use Rattle.logger_core.specs.Meant.{Meant, IsAt};
 ghost use Rattle.logger_core.specs.Runs.{SurvivesWith};
 
@@ -28,6 +28,8 @@ fn write_one<D: Disk>(disk: &mut D, label: &Label, ends: &Ends, run: &Run) -> Re
     ensures exact { IfOk result (λ e. e ≡ after_run ends.now run.now) }
     ensures small { IfOk result AreSmall }
     ensures grows { D.tells → OnlyGrows (D.held disk.old) (D.held disk.new) }
+    ensures most { D.tells → (m : Meant) (limit : ℕ) (group : Sequence Told) (now : Sequence Record) (after : Numbers) → IsAt m ends.now (D.held disk.old) → m.contents.label ≡ label.now → IsRunOf m.contents.records ends.now limit run.now group now after → AreAllEnough group
+        → HoldsNoMore (run_files m.contents.label ends.now run.now m.files) (D.held disk.new) }
     ensures cause { HasCause (D.faults disk.old) (D.faults disk.new) result }
 {
     let start = make_room(disk, label, ends, run.crossing)?;
@@ -52,7 +54,7 @@ pub(crate) fn write_runs<D: Disk>(
     ensures exact { IfOk result (λ e. e ≡ after_runs ends.now runs.now) }
     ensures small { IfOk result AreSmall }
     ensures written { D.tells → (m : Meant) (limit : ℕ) (group : Sequence Told) (now : Sequence Record) (after : Numbers) → IsAt m ends.now (D.held disk.old) → m.contents.label ≡ label.now → AreRuns m.contents.records ends.now limit runs.now group now after → AreAllEnough group
-        → IfErr result (λ k. AreWritten m ends.now.volume limit (take k group) (D.held disk.new)) }
+        → IfErr result (λ k. AreWritten m ends.now.volume limit group k (D.held disk.new)) }
     ensures begins { (records : Sequence Record) (limit : ℕ) (group : Sequence Told) (now : Sequence Record) (after : Numbers) → AreRuns records ends.now limit runs.now group now after → IfErr result (λ k. BeginsRun records ends.now limit group k) }
     ensures nothing { runs.now ≡ [] → disk.new ≡ disk.old }
     ensures few { IfErr result (λ k. k < counts_of runs.now) }

@@ -2,13 +2,14 @@
 use Rattle.std.proofs.Common.{subst, sym, Option}
 use Rattle.std.specs.Prelude.{[], option_to_list, IfOk}
 use Rattle.pcp_model.specs.declared.records.Entry.{Entry}
-use Rattle.logger_core.specs.Going.{GrownTo, LeadIfAny}
+use Rattle.logger_core.specs.Going.{GrownTo, LeadIfAny, HoldsNoMore}
 use Rattle.logger_core.specs.Meant.{SurvivesOf}
 use Rattle.logger_core.specs.Steps.{with_entry}
 use Rattle.logger_core.proofs.Calls.{no_call}
 use Rattle.logger_core.proofs.Growing.{grows_not}
 use Rattle.logger_core.proofs.Rests.{image_survives}
 use Rattle.logger_core.proofs.Turned.{none_put}
+use Rattle.logger_core.proofs.AtMost.{most_same}
 use Rattle.logger_core.proofs.flushing.add_entry.Goals as goal
 
 pub returns-in-None-clause-any_moment : goal.returns-in-None-clause-any_moment
@@ -28,3 +29,13 @@ returns-in-Some-clause-ok g c = λ tells m at lead.
 
 pub returns-in-None-clause-grows : goal.returns-in-None-clause-grows
 returns-in-None-clause-grows g c = λ tells. grows_not (g.D.Disk.held c.args.disk.now)
+
+pub returns-in-None-clause-most : goal.returns-in-None-clause-most
+returns-in-None-clause-most g c = λ tells files are.
+    let held = g.D.Disk.held c.args.disk.now in
+    subst (λ (o : Option Entry). HoldsNoMore (with_entry o files) held) (sym c.in-None.is) (most_same files held are)
+
+pub returns-in-Some-clause-most : goal.returns-in-Some-clause-most
+returns-in-Some-clause-most g c = λ tells files are.
+    let d = g.D.Disk in
+    subst (λ (o : Option Entry). HoldsNoMore (with_entry o files) (d.held c.put_entry.new.disk)) (sym c.in-Some.is) (c.put_entry.ensures.most tells files are)

@@ -7,6 +7,7 @@ use Rattle.logger_core.specs.Meant.{IsAt, SurvivesOf}
 use Rattle.logger_core.proofs.Calls.{one_sync}
 use Rattle.logger_core.proofs.Growing.{grows_sync}
 use Rattle.logger_core.proofs.Rests.{image_survives, synced_at}
+use Rattle.logger_core.proofs.AtMost.{most_synced}
 use Rattle.logger_core.proofs.flushing.sync_volume.Goals as goal
 
 pub returns-in_err-sync-clause-any_moment : goal.returns-in_err-sync-clause-any_moment
@@ -35,3 +36,13 @@ pub returns-clause-grows : goal.returns-clause-grows
 returns-clause-grows g c = λ tells.
     let d = g.D.Disk in
     grows_sync (Volume c.args.ends.now.volume) (d.held c.args.disk.now) (d.held c.sync.new.self) c.sync.result (c.sync.ensures.held tells)
+
+pub returns-in_err-sync-clause-most : goal.returns-in_err-sync-clause-most
+returns-in_err-sync-clause-most g c = λ tells files are.
+    let d = g.D.Disk in
+    most_synced files (d.held c.args.disk.now) (d.held c.sync.new.self) are (Volume c.args.ends.now.volume) c.sync.result (c.sync.ensures.held tells)
+
+pub returns-clause-most : goal.returns-clause-most
+returns-clause-most g c = λ tells files are.
+    let d = g.D.Disk in
+    most_synced files (d.held c.args.disk.now) (d.held c.sync.new.self) are (Volume c.args.ends.now.volume) c.sync.result (c.sync.ensures.held tells)

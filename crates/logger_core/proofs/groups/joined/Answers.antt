@@ -1,6 +1,5 @@
 -- What didn't grow is cut back.
 use Rattle.std.proofs.Common.{ap, ◌∙◌, List, ℕ}
-use Rattle.logger_core.specs.declared.groups.Run.{Run}
 use Rattle.logger_core.proofs.RunKept.{back_again}
 use Rattle.logger_core.proofs.groups.joined.Goals as goal
 

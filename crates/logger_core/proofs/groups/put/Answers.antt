@@ -1,6 +1,5 @@
 -- A run more, or a longer last one.
 use Rattle.std.proofs.Common.{sym, ap, ◌∙◌, arith}
-use Rattle.std.specs.Prelude.{option_to_list}
 use Rattle.logger_core.specs.Held.{counts_of}
 use Rattle.logger_core.proofs.HeldRuns.{last_count}
 use Rattle.logger_core.proofs.RunKept.{put_begins, put_joins}

@@ -6,6 +6,7 @@ use Rattle.logger_core.proofs.Growing.{grows_append}
 use Rattle.logger_core.proofs.ItemsPut.{items_survive, items_after}
 use Rattle.logger_core.proofs.Loggable.{survives_more}
 use Rattle.logger_core.proofs.Rests.{image_survives}
+use Rattle.logger_core.proofs.AtMost.{most_appended}
 use Rattle.logger_core.proofs.running.add_items.Goals as goal
 
 pub returns-clause-any_moment : goal.returns-clause-any_moment
@@ -25,3 +26,8 @@ pub returns-clause-grows : goal.returns-clause-grows
 returns-clause-grows g c = λ tells.
     let d = g.D.Disk in
     grows_append (Volume c.args.number) c.args.bytes.now (d.held c.args.disk.now) (d.held c.append.new.self) c.append.result (c.append.ensures.held tells)
+
+pub returns-clause-most : goal.returns-clause-most
+returns-clause-most g c = λ tells files are.
+    let d = g.D.Disk in
+    most_appended files (d.held c.args.disk.now) (d.held c.append.new.self) are (Volume c.args.number) c.args.bytes.now c.append.result (c.append.ensures.held tells)

@@ -9,6 +9,7 @@ use Rattle.logger_core.proofs.Calls.{no_call, run_as}
 use Rattle.logger_core.proofs.Growing.{grows_not, grows_append_synced}
 use Rattle.logger_core.proofs.Rests.{image_survives}
 use Rattle.logger_core.proofs.RecordsPut.{none_grown, records_survive, records_after}
+use Rattle.logger_core.proofs.AtMost.{most_append_synced}
 use Rattle.logger_core.proofs.running.add_records.Goals as goal
 
 pub returns-clause-any_moment : goal.returns-clause-any_moment
@@ -37,3 +38,8 @@ returns-clause-grows g c = λ tells.
 
 pub returns-then-is_empty-clause-grows : goal.returns-then-is_empty-clause-grows
 returns-then-is_empty-clause-grows g c = λ tells. grows_not (g.D.Disk.held c.args.disk.now)
+
+pub returns-clause-most : goal.returns-clause-most
+returns-clause-most g c = λ tells files are.
+    let d = g.D.Disk in
+    most_append_synced files (d.held c.args.disk.now) (d.held c.append_synced.new.disk) are Meta c.args.bytes.now c.append_synced.result (c.append_synced.ensures.held tells)

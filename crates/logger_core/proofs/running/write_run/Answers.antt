@@ -10,6 +10,10 @@ use Rattle.logger_core.proofs.Calls.{run_as, run_then}
 use Rattle.logger_core.proofs.Growing.{grows_then}
 use Rattle.logger_core.proofs.Loggable.{survives_more}
 use Rattle.logger_core.proofs.RunPut.{items_come, run_grown, run_ends, grown_survives_with}
+use Rattle.pcp_base.specs.declared.file.FileId.TheVariants.{Meta, Volume}
+use Rattle.pcp_model.specs.Written.{with_added}
+use Rattle.logger_core.proofs.AtMost.{added_longer, most_as, most_longer}
+use Rattle.logger_core.proofs.Pointwise.{added_same}
 use Rattle.logger_core.proofs.running.write_run.Goals as goal
 
 pub returns-in_err-add_records-clause-any_moment :
@@ -66,3 +70,32 @@ pub returns-clause-grows : goal.returns-clause-grows
 returns-clause-grows g c = λ tells.
     let d = g.D.Disk in
     grows_then (d.held c.args.disk.now) (d.held c.add_records.new.disk) (d.held c.add_items.new.disk) (c.add_records.ensures.grows tells) (c.add_items.ensures.grows tells)
+
+pub returns-in_err-add_records-clause-most : goal.returns-in_err-add_records-clause-most
+returns-in_err-add_records-clause-most g c = λ tells m at rs xs run.
+    let d = g.D.Disk in
+    let n = c.args.ends.now.volume in
+    let files = with_added Meta c.args.records.now m.files in
+    most_longer files (with_run n c.args.records.now c.args.items.now m.files) (d.held c.add_records.new.disk) (added_longer (Volume n) c.args.items.now files) (c.add_records.ensures.most tells m.files at.stands.written)
+
+pub returns-in_err-add_items-clause-most : goal.returns-in_err-add_items-clause-most
+returns-in_err-add_items-clause-most g c = λ tells m at rs xs run.
+    let d = g.D.Disk in
+    let n = c.args.ends.now.volume in
+    let records = c.args.records.now in
+    let items = c.args.items.now in
+    let new = d.held c.add_items.new.disk in
+    let first = c.in_ok-add_records.ensures.ok tells m at.stands run.meta_payloads rs run.meta_is run.come in
+    most_as (with_added (Volume n) items first.new.files) (with_run n records items m.files) new (added_same (Volume n) items first.new.files (with_added Meta records m.files) first.files_are)
+    (c.add_items.ensures.most tells first.new.files first.stands.written)
+
+pub returns-clause-most : goal.returns-clause-most
+returns-clause-most g c = λ tells m at rs xs run.
+    let d = g.D.Disk in
+    let n = c.args.ends.now.volume in
+    let records = c.args.records.now in
+    let items = c.args.items.now in
+    let new = d.held c.add_items.new.disk in
+    let first = c.in_ok-add_records.ensures.ok tells m at.stands run.meta_payloads rs run.meta_is run.come in
+    most_as (with_added (Volume n) items first.new.files) (with_run n records items m.files) new (added_same (Volume n) items first.new.files (with_added Meta records m.files) first.files_are)
+    (c.add_items.ensures.most tells first.new.files first.stands.written)

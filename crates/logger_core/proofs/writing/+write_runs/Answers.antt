@@ -6,10 +6,11 @@ use Rattle.logger_core.specs.Going.{AreSmall}
 use Rattle.logger_core.specs.Grouping.{BeginsRun, samples_of}
 use Rattle.logger_core.specs.Held.{AreRuns, AreRunsBounded, RunWritten, after_run, counts_of}
 use Rattle.logger_core.specs.Runs.{SurvivesWith}
+use Rattle.logger_core.proofs.Begun.{none_written}
 use Rattle.logger_core.proofs.Calls.{no_call, run_as, run_then}
 use Rattle.logger_core.proofs.Loggable.{survives_more}
 use Rattle.logger_core.proofs.Rests.{image_survives}
-use Rattle.logger_core.proofs.RunsWritten.{begins_first, begins_later, first_enough, first_survives, never_none, none_after, none_written, nothing_written, rest_at, rest_enough, rest_first, rest_runs, rest_survives, rest_written}
+use Rattle.logger_core.proofs.RunsWritten.{begins_first, begins_later, first_enough, first_survives, never_none, nothing_written, rest_at, rest_enough, rest_first, rest_runs, rest_survives, rest_written}
 use Rattle.logger_core.proofs.writing.+write_runs.Goals as goal
 
 pub write_one-requires-clause-bounded : goal.write_one-requires-clause-bounded
@@ -61,7 +62,9 @@ returns-in-Err-clause-written g t c = λ tells m limit group now after at same a
     let rest = c.in-Some.rest.now in
     let old = d.held c.args.disk.now in
     let mid = d.held c.write_one.new.disk in
-    none_written m e.volume limit old mid group at.stands (c.write_one.ensures.grows tells)
+    let a = subst (λ rs. AreRuns m.contents.records e limit rs group now after) c.in-Some.ensures.cases.0 all in
+    let few = first_enough m e (after_run e run) limit run rest group now after a enough refl in
+    none_written m e limit run rest group now after old mid at c.requires.small.volume a few (c.write_one.ensures.grows tells) (c.write_one.ensures.most tells m limit a.0 a.3 a.4 at same a.5 few)
 
 pub returns-in-Err-clause-begins : goal.returns-in-Err-clause-begins
 returns-in-Err-clause-begins g t c = λ records limit group now after all.

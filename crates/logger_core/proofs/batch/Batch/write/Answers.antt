@@ -1,6 +1,5 @@
 -- What was meant to be is there.
-use Rattle.std.proofs.Common.{sym, subst, []}
-use Rattle.std.specs.Prelude.{OnOk}
+use Rattle.std.proofs.Common.{sym, subst}
 use Rattle.logger_core.specs.Holding.{HeldBack, IsHolding}
 use Rattle.logger_core.proofs.Holds.{all_there}
 use Rattle.logger_core.proofs.batch.Batch.write.Goals as goal

@@ -1,15 +1,17 @@
 -- What was judged is written.
-use Rattle.std.proofs.Common.{refl, sym, ◌∙◌, subst}
-use Rattle.std.specs.Prelude.{◌≡◌}
-use Rattle.logger_core.specs.Grouping.{GroupMayAnswer, LeavesFirst, samples_of}
+use Rattle.std.proofs.Common.{refl, sym, ◌∙◌, subst, List, take}
+use Rattle.std.specs.Prelude.{◌≡◌, ◌≢◌}
+use Rattle.logger_core.specs.Grouping.{GroupMayAnswer, LeavesFirst, samples_of, Told}
 use Rattle.logger_core.specs.Held.{IsJudgedBy, held_of}
 use Rattle.logger_core.specs.Meant.{Kept}
 use Rattle.logger_core.specs.Runs.{SurvivesWith}
 use Rattle.logger_core.proofs.Calls.{no_call, run_as}
-use Rattle.logger_core.proofs.GroupLogged.{always_open, answer_on, answers_done, answers_fault, answers_first, answers_loggable, answers_open, answers_touched, disk_answer, front_written, given_runs, held_enough, held_survives, inside_at, inside_bounded, inside_few, inside_label, judge_answer, judge_leaves, meant_runs, ok_always}
+use Rattle.logger_core.proofs.GroupLogged.{always_open, answer_on, answers_done, answers_fault, answers_first, answers_loggable, answers_open, answers_touched, disk_answer, front_written, given_runs, held_enough, held_survives, inside_at, inside_bounded, inside_few, inside_label, judge_answer, judge_leaves, meant_runs, ok_always, answers_refused}
 use Rattle.logger_core.proofs.HeldRuns.{runs_after}
 use Rattle.logger_core.proofs.Loggable.{survives_more}
 use Rattle.logger_core.proofs.Rests.{image_survives}
+use Rattle.pcp_outside.specs.Devices.{LeavesOnly}
+use Rattle.logger_core.specs.declared.fault.LogFault.TheVariants.{DiskFault}
 use Rattle.logger_core.proofs.logger.Logger.log_all.Goals as goal
 
 pub write_runs-requires-clause-bounded : goal.write_runs-requires-clause-bounded
@@ -259,3 +261,29 @@ returns-clause-closed g c = λ h.
     let runs = c.as_slice-runs.result.now in
     let same = c.as_slice-runs.ensures in
     always_open old p.open_ h
+
+pub returns-in-Ok-clause-refused : goal.returns-in-Ok-clause-refused
+returns-in-Ok-clause-refused g c = λ tells enough m l.
+    let inside : Kept = record { label = c.self.inside.label; records = c.self.inside.meta; ends = c.self.inside.ends; limit = c.self.inside.limit; closed = c.self.inside.closed } in
+    let d = g.D.Disk in
+    let old = c.args.self.now in
+    let now = c.judged.new.self in
+    let group = c.args.group.now in
+    let j = c.in_ok-judged.judged in
+    let p = subst (λ all. IsJudgedBy old now all j) c.as_slice.ensures c.in_ok-judged.ensures.judged in
+    let is = c.self.view_is in
+    let runs = c.as_slice-runs.result.now in
+    let same = c.as_slice-runs.ensures in
+    answers_refused old now inside group j p is c.answer_of.result c.in-Ok.ends c.answer_of.ensures.none c.answer_of.ensures.some
+    (λ (gs : List Told). LeavesOnly d.moment d.left_since c.args.disk.now c.write_runs.new.disk (SurvivesWith m (samples_of gs)))
+    (c.write_runs.ensures.any_moment tells m old.limit (held_of j.refused group) now.records j.group.planned (inside_at old now inside group j p is m (d.held c.args.disk.now) l) (inside_label old now inside group j p is m (d.held c.args.disk.now) l)
+    (meant_runs old now inside group j p is m (d.held c.args.disk.now) l runs same) (held_enough j.refused group enough))
+
+pub returns-in_err-judged-clause-refused : goal.returns-in_err-judged-clause-refused
+returns-in_err-judged-clause-refused g c = λ tells enough m l.
+    let d = g.D.Disk in
+    let old = c.args.self.now in
+    let group = c.args.group.now in
+    answer_on c.from_residual.result c.in_err-judged.field-0.0 (λ e. e.1 ≢ DiskFault → LeavesOnly d.moment d.left_since c.args.disk.now c.args.disk.now (SurvivesWith m (samples_of (take e.0 group)))) c.from_residual.ensures.1
+    (λ other. no_call d g.met.D.Disk.only_now c.args.disk.now (SurvivesWith m (samples_of (take c.in_err-judged.field-0.0.0 group)))
+    (λ image crash. survives_more m (samples_of (take c.in_err-judged.field-0.0.0 group)) image (image_survives m old.ends.volume (d.held c.args.disk.now) l.at.stands image crash)))
