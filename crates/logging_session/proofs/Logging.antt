@@ -1,5 +1,5 @@
 -- What `log` answers: the archive is opened, and handed the result.
-use Rattle.std.proofs.Common.{◌≡◌, ◌≢◌, inl, inr, ℕ, List, refl, sym, ◌∙◌, subst}
+use Rattle.std.proofs.Common.{◌≡◌, ◌≢◌, inl, inr, ℕ, List, sym, ◌∙◌, subst}
 use Rattle.pcp_model.specs.Disk.{Files, Holdings}
 use Rattle.pcp_model.specs.LabelFields.{LabelFields}
 use Rattle.logger_core.specs.declared.fault.LogFault.{LogFault}
@@ -47,16 +47,6 @@ take_may r old middle new before after (Changed pmid) working open_ stays may = 
 take_may r old middle new before after (Full file bytes) working open_ stays may = (stays_open old middle new working open_ stays may.0, subst (λ (t : Carried). IsFor t.place r (Full file bytes)) (sym may.0) may.1)
 take_may r old middle new before after NoMemory working open_ stays may = inr (stays_open old middle new working open_ stays may)
 take_may r old middle new before after DiskFault working open_ stays may = absurd may
-
--- it isn't the disk that refuses it
-pub take_no_fault : (r : Report) (middle new : Carried) (e : LogFault) → TakeMayAnswer r middle new e → e ≢ DiskFault
-take_no_fault r middle new Closed may = λ e. cc
-take_no_fault r middle new (Large bytes) may = λ e. cc
-take_no_fault r middle new (NotLater last) may = λ e. cc
-take_no_fault r middle new (Changed pmid) may = λ e. cc
-take_no_fault r middle new (Full file bytes) may = λ e. cc
-take_no_fault r middle new NoMemory may = λ e. cc
-take_no_fault r middle new DiskFault may = absurd may
 
 -- a session that is open isn't lost by it
 open_not_lost : {A : Type 0} (p : Place) → HasLogger p → HasLost p → A

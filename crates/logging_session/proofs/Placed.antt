@@ -1,7 +1,6 @@
 -- What holds of a session by where its archive stands, over any disk.
 use Rattle.std.proofs.Common.{◌≡◌, ◌≢◌, ◌⊎◌, inl, inr, ⊎_elim, ℕ, ◌+◌, ◌<◌, ◌≤◌, min, false, [], refl, sym, ap, subst, arith}
 use Rattle.pcp_base.specs.declared.result.PmResult.{PmResult}
-use Rattle.pcp_outside.specs.Causes.{Rose}
 use Rattle.archive_meta.specs.declared.facts.Facts.{Facts}
 use Rattle.archive_recovery.specs.declared.outcome.Archive.{Archive}
 use Rattle.logger_core.specs.declared.fault.LogFault.{LogFault}
@@ -67,13 +66,6 @@ module _ (s : Carried) (lost : ℕ) (is : s.place ≡ Failed lost) where
 
   pub failed_not_open : {A : Type 0} → IsOpen s → A
   failed_not_open open_ = absurd (subst HasLogger is open_)
-
--- an open session isn't closed
-pub open_or_closed : {A : Type 0} (p : Place) → HasLogger p → HasLost p ⊎ HasFailed p → A
-open_or_closed (Found archive) open_ closed = absurd open_
-open_or_closed (Open b) open_ closed = neither closed
-open_or_closed Lost open_ closed = absurd open_
-open_or_closed (Failed lost) open_ closed = absurd open_
 
 pub closed_not_working : {A : Type 0} (p : Place) → HasLost p ⊎ HasFailed p → HasFound p ⊎ HasLogger p → A
 closed_not_working (Found archive) closed working = neither closed

@@ -1,5 +1,5 @@
 -- What survives of what was held, while it is written, and then while it is made sure.
-use Rattle.std.proofs.Common.{List, ◌++◌, subst, arith}
+use Rattle.std.proofs.Common.{List, ◌++◌, subst}
 use Rattle.pcp_model.specs.Disk.{CrashImage, Files}
 use Rattle.pcp_outside.specs.declared.disk.Disk.{Ghosts as DiskGhosts}
 use Rattle.pcp_outside.specs.Devices.{LeavesOnly}

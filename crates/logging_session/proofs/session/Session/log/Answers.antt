@@ -76,7 +76,6 @@ returns-in_err-open_for-clause-went g c = λ tells enough left events start h.
     (not_opened d left g.met.D.Disk.only_now start first last old new c.open_for.ensures.same.0 c.open_for.ensures.same.1 events r h (c.open_for.ensures.any_moment tells left events h.keeps)
     (d.faults first) (d.faults last) e c.in_err-open_for.ensures.cause (c.in_err-open_for.ensures.refused tells left events h.keeps))
 
-
 pub returns-clause-untouched : goal.returns-clause-untouched
 returns-clause-untouched g c =
     let r : Report = record { result = c.args.answer.now; facts = c.args.facts.now } in
