@@ -5,7 +5,7 @@ use Rattle.run_archive.proofs.finishing.finish.Goals as goal
 pub returns-clause-flushed : goal.returns-clause-flushed
 returns-clause-flushed g c = λ goes tells left events start keeps.
     let h = c.flush_last-ending.ensures.flushed (λ is. goes (failing_told c.flush_last-ending.result c.tell-ending.result (λ other. (c.tell-ending.ensures.others other).0) is)) tells left events start keeps in
-    (c.flush_last-ending.new.session, h.0, c.flush_last-ending.ensures.same.0, h.1, h.2)
+    (c.flush_last-ending.new.session, h.0, c.flush_last-ending.ensures.same.0, h.1, h.2, h.3)
 
 pub returns-clause-fails : goal.returns-clause-fails
 returns-clause-fails g c = λ other is tells left events start keeps.
