@@ -1,5 +1,5 @@
 -- What flushes do and write.
-use Rattle.std.proofs.Common.{◌≡◌, ◌≢◌, ◌⊎◌, ⊎_elim, ℕ, zero, suc, List, [], ◌++◌, codes, refl, sym, ◌∙◌, subst}
+use Rattle.std.proofs.Common.{◌≡◌, ◌≢◌, ◌⊎◌, ⊎_elim, inl, inr, ℕ, zero, suc, List, [], ◌++◌, codes, refl, sym, ap, ◌∙◌, subst}
 use Rattle.pcp_model.specs.Disk.{Files}
 use Rattle.pcp_model.specs.LabelFields.{LabelFields}
 use Rattle.pcp_outside.specs.declared.disk.Disk.{Ghosts as DiskGhosts}
@@ -14,7 +14,7 @@ use Rattle.script_runs.specs.declared.ending.Ending.{Ending}
 use Rattle.script_runs.specs.declared.ending.Ending.TheVariants as ends
 use Rattle.script_runs.specs.Archives.{run_label}
 use Rattle.text_lines.specs.Spelling.{one_number}
-use Rattle.run_archive.specs.Endings.{flushed_line}
+use Rattle.run_archive.specs.Endings.{flushed_line, told_behind}
 use Rattle.run_archive.specs.Kept.{KeepsRun}
 
 module _ {D : Type 0} (d : DiskGhosts D) (left : Files) (events : List Event) (start : D) (was : Carried) (old : D) (keeps : KeepsRun d left events start was old) where
@@ -73,3 +73,26 @@ told_failing (ends.Changed pmid) last others told is = sym (others (λ e. cc)) �
 
 pub failing_told : (ending last : Ending) → (ending ≢ ends.Done → last ≡ ending) → ending ≡ ends.DiskFault → last ≡ ends.DiskFault
 failing_told ending last others is = others (λ done. let e : ends.DiskFault ≡ ends.Done = sym is ∙ done in cc) ∙ is
+
+-- what is told behind what was written
+module _ (last : Ending) (output new : List ℕ) (logged : ℕ) where
+  told_other : (ending : Ending) → told_behind ending output logged ≡ output → (last ≡ ending) × (new ≡ output) → new ≡ told_behind last output logged
+  told_other ending nothing h = h.1 ∙ sym nothing ∙ ap (λ (e : Ending). told_behind e output logged) (sym h.0)
+
+  told_end : ((last ≡ ends.Done) × (new ≡ output ++ one_number (codes "logged") logged)) ⊎ ((last ≡ ends.NoMemory) × (new ≡ output)) → new ≡ told_behind last output logged
+  told_end (inl (is, more)) = more ∙ ap (λ (e : Ending). told_behind e output logged) (sym is)
+  told_end (inr h) = told_other ends.NoMemory refl h
+
+  pub told_is : (ending : Ending) → (ending ≢ ends.Done → (last ≡ ending) × (new ≡ output))
+      → (ending ≡ ends.Done → ((last ≡ ends.Done) × (new ≡ output ++ one_number (codes "logged") logged)) ⊎ ((last ≡ ends.NoMemory) × (new ≡ output))) → new ≡ told_behind last output logged
+  told_is ends.Done others told = told_end (told refl)
+  told_is (ends.Condition line) others told = told_other (ends.Condition line) refl (others (λ e. cc))
+  told_is ends.DiskFault others told = told_other ends.DiskFault refl (others (λ e. cc))
+  told_is (ends.NotArchive file at) others told = told_other (ends.NotArchive file at) refl (others (λ e. cc))
+  told_is (ends.Compressed file) others told = told_other (ends.Compressed file) refl (others (λ e. cc))
+  told_is (ends.Limit what number) others told = told_other (ends.Limit what number) refl (others (λ e. cc))
+  told_is (ends.ClockEnd samples) others told = told_other (ends.ClockEnd samples) refl (others (λ e. cc))
+  told_is (ends.ClockFault samples) others told = told_other (ends.ClockFault samples) refl (others (λ e. cc))
+  told_is ends.NoMemory others told = told_other ends.NoMemory refl (others (λ e. cc))
+  told_is (ends.NotLater stamp) others told = told_other (ends.NotLater stamp) refl (others (λ e. cc))
+  told_is (ends.Changed pmid) others told = told_other (ends.Changed pmid) refl (others (λ e. cc))
