@@ -1,5 +1,5 @@
 -- Each ending has its cause.
-use Rattle.std.proofs.Common.{◌≡◌, ◌≢◌, ◌⊎◌, ⊎_elim, inl, inr, ℕ, ◌≤◌, refl, sym, ap, ◌∙◌, subst, arith}
+use Rattle.std.proofs.Common.{◌≡◌, ◌≢◌, ◌⊎◌, inl, inr, ℕ, ◌≤◌, refl, sym, ap, subst, arith}
 use Rattle.pcp_base.specs.declared.file.FileId.TheVariants.{Meta, Index, Volume}
 use Rattle.pcp_outside.specs.Causes.{Rose}
 use Rattle.pcp_outside.specs.declared.clocks.Clock.{Ghosts as ClockGhosts}
@@ -156,7 +156,7 @@ pub hides_may : (seat : List Token) (pmids : List ℕ) (ending : Ending) (later 
 hides_may seat pmids ending later before after (inl (many, stays, is)) = subst (λ (e : Ending). MayRefuse before after e) (sym is) tt
 hides_may seat pmids ending later before after (inr is) = subst (λ (e : Ending). MayRefuse before after e) (sym is) tt
 
-rose_earlier : (before mid after : ℕ) → before ≤ mid → Rose mid after → Rose before after
+pub rose_earlier : (before mid after : ℕ) → before ≤ mid → Rose mid after → Rose before after
 rose_earlier before mid after later (inl rose) = inl (omega (arith, later, rose))
 rose_earlier before mid after later (inr full) = inr full
 

@@ -20,7 +20,7 @@ use Rattle.archive_recovery.proofs.Settled.{settled_begins}
 use Rattle.logger_core.proofs.Calls.{no_call, run_then}
 use Rattle.logging_session.specs.ComingBack.{ComesBack, ComesBackTo, MayBeAfter, start_of}
 use Rattle.logging_session.specs.Course.{WentBy}
-use Rattle.logging_session.specs.Events.{EndsLogged, Event, LeadFrom, acknowledged_by, closing, flushed_behind, items_by, sure_after}
+use Rattle.logging_session.specs.Events.{Event, LeadFrom, acknowledged_by, closing, flushed_behind, items_by, sure_after}
 use Rattle.logging_session.specs.Keeping.{AreWhole, Carried, held_in}
 use Rattle.logging_session.specs.Written.{Stand}
 use Rattle.logging_session.proofs.ComeBack.{fewer, same_left}
@@ -55,30 +55,6 @@ sure_bounded (Event.synced ∷ events) all sure le = sure_bounded events all all
 flushed_sure : (items : List Item) (events : List Event) → items_by events ≡ items → acknowledged_by (flushed_behind items events) ≡ length (items_by events)
 flushed_sure [] events none = let many : length (items_by events) ≡ 0 = ap (λ (xs : List Item). length xs) none in omega (arith, many, sure_bounded events 0 0 (omega arith))
 flushed_sure (x ∷ items) events some = sure_flushed events
-
--- and don't end with a result
-logged_item : (events : List Event) → EndsLogged events → items_by events ≡ [] → ⊥
-logged_item [] ends none = ends
-logged_item (Event.opened t ∷ []) ends none = ends
-logged_item (Event.logged r ∷ []) ends none = cc
-logged_item (Event.flushed ∷ []) ends none = ends
-logged_item (Event.synced ∷ []) ends none = ends
-logged_item (Event.opened t ∷ f ∷ events) ends none = logged_item (f ∷ events) ends none
-logged_item (Event.logged r ∷ f ∷ events) ends none = cc
-logged_item (Event.flushed ∷ f ∷ events) ends none = logged_item (f ∷ events) ends none
-logged_item (Event.synced ∷ f ∷ events) ends none = logged_item (f ∷ events) ends none
-
-flush_last : (events : List Event) → EndsLogged (events ++ Event.flushed ∷ []) → ⊥
-flush_last [] ends = ends
-flush_last (e ∷ []) ends = ends
-flush_last (e ∷ f ∷ events) ends = flush_last (f ∷ events) ends
-
-flushed_unlogged : (items : List Item) (events : List Event) → items_by events ≡ items → EndsLogged (flushed_behind items events) → ⊥
-flushed_unlogged [] events none ends = logged_item events ends none
-flushed_unlogged (x ∷ items) events some ends = flush_last events ends
-
-closing_unlogged : (events : List Event) → EndsLogged (closing events) → ⊥
-closing_unlogged events ends = flushed_unlogged (items_by events) events refl ends
 
 -- and acknowledge all
 closing_sure : (events : List Event) → acknowledged_by (closing events) ≡ length (items_by events)

@@ -8,7 +8,7 @@ use Rattle.run_archive.proofs.flushing.flush_line.Goals as goal
 pub returns-in-Ok-flush-clause-flushes : goal.returns-in-Ok-flush-clause-flushes
 returns-in-Ok-flush-clause-flushes g c = λ tells left events start keeps.
     let was = c.args.session.now in
-    some_flushed g.D.Disk left events start was c.args.disk.now keeps c.flush.new.self c.flush.new.disk (λ (none : was.logged ≡ 0). c.if-logged-eq0.false (c.logged-logged.ensures ∙ none)) c.flush.ensures.same.0
+    some_flushed g.D.Disk left events start was c.args.disk.now keeps c.flush.new.self c.flush.new.disk (λ (none : was.logged ≡ 0). c.if-logged-eq0.false (c.logged-logged.ensures.value ∙ none)) c.flush.ensures.same.0
     (c.in-Ok-flush.ensures.went tells left events start keeps.kept)
 
 pub returns-in-Err-clause-failed : goal.returns-in-Err-clause-failed
