@@ -1,5 +1,5 @@
 -- Each ending has its cause.
-use Rattle.std.proofs.Common.{◌≡◌, ◌≢◌, ◌⊎◌, inl, inr, ℕ, ◌≤◌, refl, sym, subst, arith}
+use Rattle.std.proofs.Common.{◌≡◌, ◌≢◌, ◌⊎◌, inl, inr, ℕ, ◌≤◌, refl, sym, ap, subst, arith}
 use Rattle.pcp_base.specs.declared.file.FileId.TheVariants.{Meta, Index, Volume}
 use Rattle.pcp_outside.specs.Causes.{Rose}
 use Rattle.pcp_outside.specs.declared.clocks.Clock.{Ghosts as ClockGhosts}
@@ -10,7 +10,7 @@ use Rattle.logger_core.specs.declared.fault.LogFault.TheVariants.{Closed, Large,
 use Rattle.logging_session.specs.declared.place.Place.{Place}
 use Rattle.logging_session.specs.declared.place.Place.TheVariants.{Found, Open, Lost, Failed}
 use Rattle.logging_session.specs.Answers.{FlushMayAnswer, LogMayAnswer, StaysOpen}
-use Rattle.logging_session.specs.Keeping.{Carried, HasFailed, HasFound, HasLogger, HasLost, IsClosed, IsFailed, IsWorking}
+use Rattle.logging_session.specs.Keeping.{Carried, HasFailed, HasFound, HasLogger, HasLost, IsClosed, IsFailed, IsWorking, held_in, lost_in}
 use Rattle.logging_session.specs.Written.{Report}
 use Rattle.logging_session.proofs.Placed.{neither}
 use Rattle.script_runs.specs.declared.ending.Ending.{Ending}
@@ -26,16 +26,45 @@ working_open : (place : Place) → HasFound place ⊎ HasLogger place → HasLos
 working_open (Found archive) working closed = neither closed
 working_open (Open kept) working closed = neither closed
 working_open Lost working closed = neither working
-working_open Failed working closed = neither working
+working_open (Failed lost) working closed = neither working
 
 lost_unfailed : (place : Place) → HasLost place → HasFailed place → ⊥
 lost_unfailed (Found archive) lost failed = failed
 lost_unfailed (Open kept) lost failed = failed
 lost_unfailed Lost lost failed = failed
-lost_unfailed Failed lost failed = lost
+lost_unfailed (Failed many) lost failed = lost
 
 pub working_unfailed : (s : Carried) → IsWorking s → IsFailed s → ⊥
 working_unfailed s working failed = working_open s.place working (inr failed)
+
+-- nothing is lost unless the disk failed, and then nothing is held
+place_unlost : (place : Place) → (HasFailed place → ⊥) → lost_in place ≡ 0
+place_unlost (Found archive) unfailed = refl
+place_unlost (Open kept) unfailed = refl
+place_unlost Lost unfailed = refl
+place_unlost (Failed lost) unfailed = absurd (unfailed tt)
+
+place_unheld : (place : Place) → HasLost place ⊎ HasFailed place → held_in place ≡ 0
+place_unheld (Found archive) closed = neither closed
+place_unheld (Open kept) closed = neither closed
+place_unheld Lost closed = refl
+place_unheld (Failed lost) closed = refl
+
+pub unfailed_unlost : (s : Carried) → (IsFailed s → ⊥) → lost_in s.place ≡ 0
+unfailed_unlost s unfailed = place_unlost s.place unfailed
+
+pub working_unlost : (s : Carried) → IsWorking s → lost_in s.place ≡ 0
+working_unlost s working = unfailed_unlost s (working_unfailed s working)
+
+pub closed_unheld : (s : Carried) → IsClosed s → held_in s.place ≡ 0
+closed_unheld s closed = place_unheld s.place closed
+
+-- so of what is held only what was held before may be lost
+pub unfailed_few : (s : Carried) (n : ℕ) → (IsFailed s → ⊥) → lost_in s.place ≤ n
+unfailed_few s n unfailed = omega (arith, unfailed_unlost s unfailed)
+
+pub working_few : (s : Carried) (n : ℕ) → IsWorking s → lost_in s.place ≤ n
+working_few s n working = omega (arith, working_unlost s working)
 
 -- ---- what a session refuses
 
@@ -74,6 +103,17 @@ module _ (r : Report) (old new : Carried) (before after : ℕ) where
   told_unfailed NoMemory (inr stays) other failed = stays_unfailed stays failed
   told_unfailed DiskFault may other failed = other refl
 
+  -- nothing is lost of it: the disk fails only where the archive was to be opened
+  pub told_few : (fault : LogFault) (n : ℕ) → IsWorking old → LogMayAnswer r old new before after fault → lost_in new.place ≤ n
+  told_few Closed n working may = absurd (working_open old.place working may.0)
+  told_few (Large bytes) n working may = unfailed_few new n (stays_unfailed may.0)
+  told_few (NotLater last) n working may = unfailed_few new n (stays_unfailed may.0)
+  told_few (Changed pmid) n working may = unfailed_few new n (stays_unfailed may.0)
+  told_few (Full file bytes) n working may = unfailed_few new n (stays_unfailed may.0)
+  told_few NoMemory n working (inl (found, lost, wants)) = unfailed_few new n (lost_unfailed new.place lost)
+  told_few NoMemory n working (inr stays) = unfailed_few new n (stays_unfailed stays)
+  told_few DiskFault n working may = let none : lost_in new.place ≡ 0 = ap lost_in may.1 in omega (arith, none)
+
 -- a flush that is refused for another reason than that it is closed was refused by the disk
 pub flush_rose : (old new : Carried) (before after : ℕ) (fault : LogFault) → (fault ≡ Closed → ⊥) → FlushMayAnswer old new before after fault → Rose before after
 flush_rose old new before after Closed open_ may = absurd (open_ refl)
@@ -82,7 +122,30 @@ flush_rose old new before after (NotLater last) open_ may = absurd may
 flush_rose old new before after (Changed pmid) open_ may = absurd may
 flush_rose old new before after (Full file bytes) open_ may = absurd may
 flush_rose old new before after NoMemory open_ may = absurd may
-flush_rose old new before after DiskFault open_ may = may.2
+flush_rose old new before after DiskFault open_ may = may.3
+
+-- which lost at most what was held, and closed it
+pub flush_few : (old new : Carried) (before after : ℕ) (fault : LogFault) → (fault ≡ Closed → ⊥) → FlushMayAnswer old new before after fault → lost_in new.place ≤ held_in old.place
+flush_few old new before after Closed open_ may = absurd (open_ refl)
+flush_few old new before after (Large bytes) open_ may = absurd may
+flush_few old new before after (NotLater last) open_ may = absurd may
+flush_few old new before after (Changed pmid) open_ may = absurd may
+flush_few old new before after (Full file bytes) open_ may = absurd may
+flush_few old new before after NoMemory open_ may = absurd may
+flush_few old new before after DiskFault open_ may = may.2
+
+-- a session that answered so is closed
+flush_closes : (old new : Carried) (before after : ℕ) (fault : LogFault) → FlushMayAnswer old new before after fault → IsClosed new
+flush_closes old new before after Closed may = subst IsClosed (sym may.1) may.0
+flush_closes old new before after (Large bytes) may = absurd may
+flush_closes old new before after (NotLater last) may = absurd may
+flush_closes old new before after (Changed pmid) may = absurd may
+flush_closes old new before after (Full file bytes) may = absurd may
+flush_closes old new before after NoMemory may = absurd may
+flush_closes old new before after DiskFault may = inr may.1
+
+pub flush_unheld : (old new : Carried) (before after : ℕ) (fault : LogFault) → FlushMayAnswer old new before after fault → held_in new.place ≡ 0
+flush_unheld old new before after fault may = closed_unheld new (flush_closes old new before after fault may)
 
 pub flush_unclosed : (old new : Carried) (before after : ℕ) (fault : LogFault) → IsWorking old → FlushMayAnswer old new before after fault → fault ≡ Closed → ⊥
 flush_unclosed old new before after fault working may is =
@@ -93,7 +156,7 @@ pub hides_may : (seat : List Token) (pmids : List ℕ) (ending : Ending) (later 
 hides_may seat pmids ending later before after (inl (many, stays, is)) = subst (λ (e : Ending). MayRefuse before after e) (sym is) tt
 hides_may seat pmids ending later before after (inr is) = subst (λ (e : Ending). MayRefuse before after e) (sym is) tt
 
-rose_earlier : (before mid after : ℕ) → before ≤ mid → Rose mid after → Rose before after
+pub rose_earlier : (before mid after : ℕ) → before ≤ mid → Rose mid after → Rose before after
 rose_earlier before mid after later (inl rose) = inl (omega (arith, later, rose))
 rose_earlier before mid after later (inr full) = inr full
 

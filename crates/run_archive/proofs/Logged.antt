@@ -2,7 +2,6 @@
 use Rattle.std.proofs.Common.{◌≡◌, ⊎_elim, inl, inr, ℕ, ◌+◌, ◌<◌, List, [], ◌∷◌, length, Some, refl, sym, ap, ◌∙◌, subst, arith}
 use Rattle.pcp_base.specs.Time.{Moment}
 use Rattle.pcp_base.specs.declared.file.FileId.TheVariants as files
-use Rattle.pcp_base.specs.declared.result.Item.TheVariants.{Sample}
 use Rattle.pcp_model.specs.Disk.{Files}
 use Rattle.pcp_model.specs.LabelFields.{LabelFields}
 use Rattle.pcp_outside.specs.declared.disk.Disk.{Ghosts as DiskGhosts}
@@ -13,19 +12,17 @@ use Rattle.fetch_answers.specs.declared.fetch.Fetched.{Fetched}
 use Rattle.fetch_engine.specs.declared.server.Mounted.{Mounted}
 use Rattle.logger_core.specs.declared.fault.LogFault.{LogFault}
 use Rattle.logger_core.specs.declared.fault.LogFault.TheVariants.{Closed, Large, NotLater, Changed, Full, NoMemory, DiskFault}
-use Rattle.logging_session.specs.Answers.{WouldLog}
 use Rattle.logging_session.specs.Course.{HasKept, HasNotLogged, HasTurnedAway, WentBy}
 use Rattle.logging_session.specs.Events.{Event, LeadFrom, opening, with_report}
 use Rattle.logging_session.specs.Keeping.{Carried}
-use Rattle.logging_session.specs.Written.{Refuses, Stand, Takes}
-use Rattle.logging_session.proofs.Course.{went_unopened}
+use Rattle.logging_session.specs.Written.{Refuses, Stand}
 use Rattle.script_runs.specs.declared.ending.Ending.{Ending}
 use Rattle.script_runs.specs.declared.ending.Ending.TheVariants as ends
 use Rattle.script_runs.specs.declared.ending.LimitKind.TheVariants as kinds
-use Rattle.script_runs.specs.Archives.{IsTaken, ending_of, report_of, run_label}
+use Rattle.script_runs.specs.Archives.{ending_of, report_of, run_label}
 use Rattle.script_runs.specs.Steps.{fetched_from}
 use Rattle.run_archive.specs.Endings.{EndsUnlogged, ending_after}
-use Rattle.run_archive.specs.Kept.{KeepsRun, LeavesUnlogged, TurnsItAway}
+use Rattle.run_archive.specs.Kept.{KeepsRun, LeavesUnlogged, OverAny, TurnsItAway}
 use Rattle.run_archive.specs.Logging.{LogsOne, RefusesOne, Shows}
 use Rattle.run_archive.specs.Shown.{result_for, with_result, with_results}
 
@@ -59,17 +56,14 @@ module _ {D : Type 0} (d : DiskGhosts D) (left : Files) (events : List Event) (f
   leads_so : (stand : Stand) → LeadFrom was.label was.limit left opened stand → LeadFrom run_label is.limit left opened stand
   leads_so stand lead = subst (λ (l : LabelFields). LeadFrom l is.limit left opened stand) named (subst (λ (n : ℕ). LeadFrom was.label n left opened stand) (sym limit) lead)
 
-  went_so : (es : List Event) (more : _) → WentBy d was.label was.limit left es more start new → WentBy d run_label is.limit left es more start new
-  went_so es more went = subst (λ (l : LabelFields). WentBy d l is.limit left es more start new) named (subst (λ (n : ℕ). WentBy d was.label n left es more start new) (sym limit) went)
+  went_so : WentBy d was.label was.limit left events [] start new → WentBy d run_label is.limit left events [] start new
+  went_so went = subst (λ (l : LabelFields). WentBy d l is.limit left events [] start new) named (subst (λ (n : ℕ). WentBy d was.label n left events [] start new) (sym limit) went)
 
   turns_away : (fault : LogFault) (ending : Ending) → ending_of fault ≡ Some ending → HasTurnedAway d left events (report_of f) start was is new fault → TurnsItAway d left events start f is new ending
   turns_away fault ending so h = record {
     kept = kept_so opened h.kept;
     away = record { w = h.w; lead = leads_so (Stand.opened h.w) h.lead; fault = fault; refuses = subst (λ (n : ℕ). Refuses n (report_of f) h.w fault) (sym limit) h.refuses; ends = so };
   }
-
-  is_taken : WouldLog was left opened (report_of f) → IsTaken is.limit left events f
-  is_taken t = record { w = t.w; lead = leads_so (Stand.opened t.w) t.lead; takes = subst (λ (n : ℕ). Takes n (report_of f) t.w) (sym limit) t.takes }
 
   pub unlogged : (fault : LogFault) → (fault ≡ Closed → ⊥) → HasNotLogged d left events (report_of f) start was is new fault → LeavesUnlogged d left events start f is new (ending_after fault)
   unlogged Closed open_ h = absurd (open_ refl)
@@ -80,8 +74,7 @@ module _ {D : Type 0} (d : DiskGhosts D) (left : Files) (events : List Event) (f
   unlogged (Full files.Index bytes) open_ h = turns_away (Full files.Index bytes) (ends.Limit kinds.Index bytes) refl h
   unlogged (Full (files.Volume number) bytes) open_ h = turns_away (Full (files.Volume number) bytes) (ends.Limit kinds.Volume bytes) refl h
   unlogged NoMemory open_ h = ⊎_elim (λ (kept : HasKept d left events start is new). inl (kept_so events kept)) (λ (kept : HasKept d left opened start is new). inr (kept_so opened kept)) h
-  unlogged DiskFault open_ (inl went) = inl (went_so events [] went)
-  unlogged DiskFault open_ (inr (went, takes)) = inr (went_so events (Sample f.result ∷ []) (went_unopened d left was.label was.limit f.result.stamp events (Sample f.result ∷ []) start new went), is_taken takes)
+  unlogged DiskFault open_ went = went_so went
 
 -- ---- what is shown
 
@@ -104,32 +97,51 @@ module _ {D : Type 0} (d : DiskGhosts D) (server : List Mounted) (before : List 
     counted = subst (λ (fs : List Fetched). session.logged ≡ session.logged + length fs) (no_result pmids (fetched_from shows.values pmids now) none) (omega arith);
   }
 
-  module _ (was : Carried) (old : D) (is : Carried) (new : D) (some : 0 < length pmids) (label : is.label ≡ was.label) (limit : is.limit ≡ was.limit) (enough : AreEnough fetched.facts fetched.result.sets) where
-    abbrev pub WasLogged : Type 0
-    WasLogged = d.tells → AreEnough fetched.facts fetched.result.sets → (left : Files) (events : List Event) (start : D) → HasKept d left events start was old → HasKept d left (with_report events (report_of fetched)) start is new
-
-    abbrev pub WasRefused : LogFault → Type 0
-    WasRefused fault = d.tells → AreEnough fetched.facts fetched.result.sets → (left : Files) (events : List Event) (start : D) → HasKept d left events start was old → HasNotLogged d left events (report_of fetched) start was is new fault
-
-    pub result_logged : is.logged ≡ shown_count (was.logged + 1) → was.logged < 18446744073709551615 → WasLogged → LogsOne d server before pmids now was old is new after
-    result_logged count few done = record {
-      few = shows.few;
-      values = shows.values;
-      read = shows.read;
-      logs = λ tells left events start keeps. subst (λ (fs : List Fetched). KeepsRun d left (with_results events fs) start is new) (one_result pmids fetched (fetched_from shows.values pmids now) some shows.is)
-          (record { label = label ∙ keeps.label; kept = done tells enough left events start keeps.kept });
-      counted = subst (λ (fs : List Fetched). is.logged ≡ was.logged + length fs) (one_result pmids fetched (fetched_from shows.values pmids now) some shows.is) (omega (arith, count, few));
-    }
-
-    pub result_refused : (fault : LogFault) (ending : Ending) → ending ≡ ending_after fault → (fault ≡ Closed → ⊥) → is.logged ≡ was.logged → WasRefused fault → RefusesOne d server before pmids now was old is new after ending
-    result_refused fault ending so open_ count fails = record {
+  module _ (was : Carried) (old : D) (is : Carried) (new : D) (some : 0 < length pmids) where
+    -- the disk failed as place was made for it
+    pub not_placed : (ending : Ending) → ending ≡ ends.DiskFault → is.limit ≡ was.limit → is.logged ≡ was.logged → OverAny d was old (λ left events start. WentBy d run_label was.limit left events [] start new) → RefusesOne d server before pmids now was old is new after ending
+    not_placed ending why limit count fails = record {
       some = some;
       few = shows.few;
       values = shows.values;
       read = shows.read;
-      why = subst EndsUnlogged (sym so) (why_unlogged fault open_);
-      logs = λ tells left events start keeps. subst (λ (e : Ending). LeavesUnlogged d left events start (fetched_from shows.values pmids now) is new e) (sym so)
-          (subst (λ (f : Fetched). LeavesUnlogged d left events start f is new (ending_after fault)) shows.is
-          (unlogged d left events fetched start was is new keeps.label label limit fault open_ (fails tells enough left events start keeps.kept)));
+      why = subst EndsUnlogged (sym why) tt;
+      logs = λ tells left events start keeps. subst (λ (e : Ending). LeavesUnlogged d left events start (fetched_from shows.values pmids now) is new e) (sym why)
+          (subst (λ (n : ℕ). WentBy d run_label n left events [] start new) (sym limit) (fails tells left events start keeps));
       counted = count;
     }
+
+    -- place was made for it, in this session and on this disk
+    module _ (mid : Carried) (middle : D) (placed : OverAny d was old (λ left events start. KeepsRun d left events start mid middle)) (same : mid.logged ≡ was.logged) (label : is.label ≡ mid.label) (limit : is.limit ≡ mid.limit) (enough : AreEnough fetched.facts fetched.result.sets) where
+      abbrev pub WasLogged : Type 0
+      WasLogged = d.tells → AreEnough fetched.facts fetched.result.sets → (left : Files) (events : List Event) (start : D) → HasKept d left events start mid middle → HasKept d left (with_report events (report_of fetched)) start is new
+
+      abbrev pub WasRefused : LogFault → Type 0
+      WasRefused fault = d.tells → AreEnough fetched.facts fetched.result.sets → (left : Files) (events : List Event) (start : D) → HasKept d left events start mid middle → HasNotLogged d left events (report_of fetched) start mid is new fault
+
+      pub result_logged : is.logged ≡ shown_count (mid.logged + 1) → was.logged < 18446744073709551615 → WasLogged → LogsOne d server before pmids now was old is new after
+      result_logged count few done = record {
+        few = shows.few;
+        values = shows.values;
+        read = shows.read;
+        logs = λ tells left events start keeps.
+            let kept : KeepsRun d left events start mid middle = placed tells left events start keeps in
+            subst (λ (fs : List Fetched). KeepsRun d left (with_results events fs) start is new) (one_result pmids fetched (fetched_from shows.values pmids now) some shows.is)
+            (record { label = label ∙ kept.label; kept = done tells enough left events start kept.kept });
+        counted = subst (λ (fs : List Fetched). is.logged ≡ was.logged + length fs) (one_result pmids fetched (fetched_from shows.values pmids now) some shows.is) (omega (arith, count, few, same));
+      }
+
+      pub result_refused : (fault : LogFault) (ending : Ending) → ending ≡ ending_after fault → (fault ≡ Closed → ⊥) → is.logged ≡ mid.logged → WasRefused fault → RefusesOne d server before pmids now was old is new after ending
+      result_refused fault ending so open_ count fails = record {
+        some = some;
+        few = shows.few;
+        values = shows.values;
+        read = shows.read;
+        why = subst EndsUnlogged (sym so) (why_unlogged fault open_);
+        logs = λ tells left events start keeps.
+            let kept : KeepsRun d left events start mid middle = placed tells left events start keeps in
+            subst (λ (e : Ending). LeavesUnlogged d left events start (fetched_from shows.values pmids now) is new e) (sym so)
+            (subst (λ (f : Fetched). LeavesUnlogged d left events start f is new (ending_after fault)) shows.is
+            (unlogged d left events fetched start mid is new kept.label label limit fault open_ (fails tells enough left events start kept.kept)));
+        counted = count ∙ same;
+      }

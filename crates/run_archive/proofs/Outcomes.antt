@@ -21,7 +21,7 @@ use Rattle.logger_core.proofs.Calls.{no_call, run_then}
 use Rattle.logging_session.specs.ComingBack.{ComesBack, ComesBackTo, MayBeAfter, start_of}
 use Rattle.logging_session.specs.Course.{WentBy}
 use Rattle.logging_session.specs.Events.{Event, LeadFrom, acknowledged_by, closing, flushed_behind, items_by, sure_after}
-use Rattle.logging_session.specs.Keeping.{AreWhole, Carried}
+use Rattle.logging_session.specs.Keeping.{AreWhole, Carried, held_in}
 use Rattle.logging_session.specs.Written.{Stand}
 use Rattle.logging_session.proofs.ComeBack.{fewer, same_left}
 use Rattle.logging_session.proofs.Course.{survives_now, survives_since}
@@ -134,7 +134,7 @@ module _ {D : Type 0} (d : DiskGhosts D) (limit : ℕ) (left : Files) (events : 
     -- what `finish` says where it flushed
     abbrev pub Flushed : Type 0
     Flushed = last ≢ ends.DiskFault → OverAny d s disk (λ left events start.
-        (now : Carried) × KeepsRun d left (closing events) start now new × (now.limit ≡ s.limit) × IsSettled (d.held new) × (AreWhole left → AreWhole (contents_of (d.held new))))
+        (now : Carried) × KeepsRun d left (closing events) start now new × (now.limit ≡ s.limit) × (held_in now.place ≡ 0) × IsSettled (d.held new) × (AreWhole left → AreWhole (contents_of (d.held new))))
 
     -- where the disk failed in it
     abbrev pub Fails : Type 0
@@ -156,7 +156,7 @@ module _ {D : Type 0} (d : DiskGhosts D) (limit : ℕ) (left : Files) (events : 
         (subst (λ (items : List Item). WentBy d run_label limit left events items start new) (sym none)
         (subst (λ (n : ℕ). WentBy d run_label n left events [] start new) same (fails other is tells left events start keeps))))
         (λ (goes : last ≢ ends.DiskFault).
-        let f : (now : Carried) × KeepsRun d left (closing events) start now new × (now.limit ≡ s.limit) × IsSettled (d.held new) × (AreWhole left → AreWhole (contents_of (d.held new))) = flushed goes tells left events start keeps in
+        let f : (now : Carried) × KeepsRun d left (closing events) start now new × (now.limit ≡ s.limit) × (held_in now.place ≡ 0) × IsSettled (d.held new) × (AreWhole left → AreWhole (contents_of (d.held new))) = flushed goes tells left events start keeps in
         let now : Carried = f.0 in
         let k : KeepsRun d left (closing events) start now new = f.1 in
         let is_limit : now.limit ≡ limit = f.2 ∙ same in
@@ -169,10 +169,10 @@ module _ {D : Type 0} (d : DiskGhosts D) (limit : ℕ) (left : Files) (events : 
             files = record {
               stand = k.kept.keeps.stand;
               lead = subst (λ (l : LabelFields). LeadsBy l limit k.kept.keeps.stand) k.label (subst (λ (n : ℕ). LeadsBy now.label n k.kept.keeps.stand) is_limit k.kept.keeps.lead);
-              are = kept_files left (closing events) now (d.held new) k.kept.keeps;
+              are = kept_files left (closing events) now (d.held new) k.kept.keeps f.3;
             };
-            settled = f.3;
-            whole = f.4;
+            settled = f.4;
+            whole = f.5;
           };
         })
         (is_failing last)

@@ -4,7 +4,7 @@ ghost use Rattle.pcp_model.specs.Disk.{IsSettled, contents_of};
 ghost use Rattle.pcp_outside.specs.Causes.{Rose};
 ghost use Rattle.logging_session.specs.Course.{WentBy};
 ghost use Rattle.logging_session.specs.Events.{closing};
-ghost use Rattle.logging_session.specs.Keeping.{AreWhole, Carried, IsFailed, held_in};
+ghost use Rattle.logging_session.specs.Keeping.{AreWhole, Carried, IsFailed, held_in, lost_in};
 ghost use Rattle.script_runs.specs.Archives.{run_label};
 ghost use Rattle.script_runs.specs.declared.ending.Ending.TheVariants.{Done as AtEnd, DiskFault as Failing, NoMemory as Refused};
 ghost use Rattle.text_lines.specs.Spelling.{one_number};
@@ -22,9 +22,12 @@ use script_runs::{Ending, make_room, put_one};
 /// whatever ended it before; else its ending stays.
 fn flush_last<D: Disk>(disk: &mut D, session: &mut Session, ending: Ending) -> Ending
     requires unfailed { ending ≢ Failing → IsFailed session.old → ⊥ }
-    ensures flushed { result ≢ Failing → OverAny D.Disk session.old disk.old (λ left events start. KeepsRun D.Disk left (closing events) start session.new disk.new × IsSettled (D.held disk.new) × (AreWhole left → AreWhole (contents_of (D.held disk.new)))) }
+    ensures flushed { result ≢ Failing → OverAny D.Disk session.old disk.old (λ left events start. KeepsRun D.Disk left (closing events) start session.new disk.new × (held_in session.new.place ≡ 0) × IsSettled (D.held disk.new) × (AreWhole left → AreWhole (contents_of (D.held disk.new)))) }
     ensures fails { ending ≢ Failing → result ≡ Failing → OverAny D.Disk session.old disk.old (λ left events start. WentBy D.Disk run_label session.old.limit left events [] start disk.new) }
-    ensures failed { ending ≡ Failing → (result ≡ ending) × (disk.new ≡ disk.old) }
+    ensures failed { ending ≡ Failing → (result ≡ ending) × (session.new ≡ session.old) × (disk.new ≡ disk.old) }
+    // Where the disk fails now at most what was held is lost, and else nothing.
+    ensures lost { ending ≢ Failing → lost_in session.new.place ≤ held_in session.old.place }
+    ensures unlost { result ≢ Failing → lost_in session.new.place ≡ 0 }
     ensures ends { (result ≡ ending) ⊎ (result ≡ Failing) }
     ensures same { (session.new.limit ≡ session.old.limit) × (session.new.logged ≡ session.old.logged) }
     ensures cause { result ≡ Failing → (ending ≡ Failing) ⊎ Rose (D.faults disk.old) (D.faults disk.new) }
@@ -83,8 +86,8 @@ pub fn finish<D: Disk>(
     ending: Ending,
 ) -> Replayed
     requires unfailed { ending ≢ Failing → IsFailed session → ⊥ }
-    requires marked { held_in session.place ≤ length marks.now }
-    ensures flushed { result.ending ≢ Failing → OverAny D.Disk session disk.old (λ left events start. (now : Carried) × KeepsRun D.Disk left (closing events) start now disk.new × (now.limit ≡ session.limit) × IsSettled (D.held disk.new) × (AreWhole left → AreWhole (contents_of (D.held disk.new)))) }
+    requires marked { ending ≢ Failing → held_in session.place ≤ length marks.now }
+    ensures flushed { result.ending ≢ Failing → OverAny D.Disk session disk.old (λ left events start. (now : Carried) × KeepsRun D.Disk left (closing events) start now disk.new × (now.limit ≡ session.limit) × (held_in now.place ≡ 0) × IsSettled (D.held disk.new) × (AreWhole left → AreWhole (contents_of (D.held disk.new)))) }
     // Where the disk fails now what was acknowledged before stays so.
     ensures fails { ending ≢ Failing → result.ending ≡ Failing → OverAny D.Disk session disk.old (λ left events start. WentBy D.Disk run_label session.limit left events [] start disk.new) }
     ensures failed { ending ≡ Failing → (result.ending ≡ Failing) × (disk.new ≡ disk.old) }
@@ -92,6 +95,8 @@ pub fn finish<D: Disk>(
     // Results may be lost where the disk failed: they aren't counted, and their lines aren't written.
     ensures told { (lost : ℕ) × (lost ≤ length marks.now) × (lost ≤ session.logged) × (result.ending ≢ Failing → lost ≡ 0) × (result.logged ≡ session.logged - lost)
         × (result.output ≡ told_behind result.ending (before_lost marks.now lost out.items) (session.logged - lost)) }
+    // Where it had failed before these are those that the session lost.
+    ensures lost { ending ≡ Failing → lost_in session.place ≤ length marks.now → result.logged ≡ session.logged - lost_in session.place }
     ensures cause { (before : ℕ) → before ≤ D.faults disk.old → MayEnd before (D.faults disk.old) ending → MayEnd before (D.faults disk.new) result.ending }
     ensures rose { result.ending ≡ Failing → (ending ≡ Failing) ⊎ Rose (D.faults disk.old) (D.faults disk.new) }
     ensures later { D.faults disk.old ≤ D.faults disk.new }

@@ -22,9 +22,10 @@ pub fn flush_line<D: Disk>(
     requires working { IsWorking session.old }
     ensures same { (session.new.label ≡ session.old.label) × (session.new.limit ≡ session.old.limit) × (session.new.logged ≡ session.old.logged) }
     ensures working { OnOk result (IsWorking session.new) }
-    // Nothing is held any more; where the disk failed at most what was held is lost.
+    // Nothing is held any more. Only what was held may be lost.
     ensures none { OnOk result (held_in session.new.place ≡ 0) }
-    ensures lost { IfErr result (λ e. e ≡ Failing → lost_in session.new.place ≤ held_in session.old.place) }
+    ensures unheld { OnErr result (held_in session.new.place ≤ held_in session.old.place) }
+    ensures lost { lost_in session.new.place ≤ held_in session.old.place }
     ensures unfailed { IfErr result (λ e. e ≢ Failing → IsFailed session.new → ⊥) }
     ensures flushes { OnOk result (OverAny D.Disk session.old disk.old (λ left events start. KeepsRun D.Disk left (flushed_behind (items_by events) events) start session.new disk.new)) }
     ensures written { OnOk result (out.new.items ≡ flushed_line out.old.items session.old.logged) }

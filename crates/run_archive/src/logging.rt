@@ -1,5 +1,5 @@
 //! What a sample shows, and logs.
-ghost use Rattle.std.specs.Prelude.{◌≡◌, ◌≢◌, ◌<◌, ◌≤◌, ◌+◌, [], ℕ, List as Sequence, IfErr, IfOk, OnErr, OnOk, MatchResult};
+ghost use Rattle.std.specs.Prelude.{◌≡◌, ◌≢◌, ◌<◌, ◌≤◌, ◌+◌, [], ℕ, length, List as Sequence, IfErr, IfOk, OnErr, OnOk, MatchResult};
 ghost use Rattle.fetch_answers.specs.Readings.{RegionReading};
 ghost use Rattle.fetch_engine.specs.Servers.{IsSeated};
 ghost use Rattle.fetch_engine.specs.Visits.{AreLoaded, AreRead};
@@ -50,8 +50,8 @@ fn make_place<D: Disk>(disk: &mut D, session: &mut Session, answer: &PmResult) -
     ensures same { (session.new.label ≡ session.old.label) × (session.new.limit ≡ session.old.limit) × (session.new.logged ≡ session.old.logged) }
     ensures working { OnOk result (IsWorking session.new) }
     ensures room { OnOk result (held_in session.new.place < 64) }
-    ensures held { OnOk result (held_in session.new.place ≤ held_in session.old.place) }
-    ensures lost { OnErr result (lost_in session.new.place ≤ held_in session.old.place) }
+    ensures held { held_in session.new.place ≤ held_in session.old.place }
+    ensures lost { lost_in session.new.place ≤ held_in session.old.place }
     ensures keeps { OnOk result (OverAny D.Disk session.old disk.old (λ left events start. KeepsRun D.Disk left events start session.new disk.new)) }
     ensures kinds { IfErr result (λ e. e ≡ Failing) }
     ensures failed { OnErr result (OverAny D.Disk session.old disk.old (λ left events start. WentBy D.Disk run_label session.old.limit left events [] start disk.new)) }
@@ -86,10 +86,12 @@ pub(crate) fn log_shown<D: Disk>(
     ensures loads { AreLoaded seat.old.tokens seat.new.tokens }
     ensures same { (session.new.label ≡ session.old.label) × (session.new.limit ≡ session.old.limit) }
     ensures count { session.new.logged ≤ session.old.logged + 1 }
-    // How many are held, or lost where the disk failed.
+    // At most this one is held beside those that were; what isn't logged isn't. Only what was held may be lost.
     ensures held { OnOk result (held_in session.new.place ≤ held_in session.old.place + 1) }
-    ensures unheld { IfErr result (λ e. e ≢ Failing → held_in session.new.place ≤ held_in session.old.place) }
-    ensures lost { IfErr result (λ e. e ≡ Failing → lost_in session.new.place ≤ held_in session.old.place) }
+    ensures unheld { OnErr result (held_in session.new.place ≤ held_in session.old.place) }
+    ensures lost { lost_in session.new.place ≤ held_in session.old.place }
+    // Where no metric is asked for nothing is done to the archive.
+    ensures idle { length pmids.now ≡ 0 → (session.new ≡ session.old) × (disk.new ≡ disk.old) }
     ensures logs { OnOk result (LogsOne D.Disk server.now seat.old.tokens pmids.now now session.old disk.old session.new disk.new seat.new.tokens) }
     ensures stops { IfErr result (StopsOne D.Disk server.now seat.old.tokens pmids.now now session.old disk.old session.new disk.new seat.new.tokens) }
     ensures working { OnOk result (IsWorking session.new) }

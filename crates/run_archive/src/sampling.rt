@@ -54,10 +54,12 @@ pub fn sample_at<'a, D: Disk>(
     ensures loads { AreLoaded seat.old.tokens seat.new.tokens }
     ensures same { (sampler.new.session.label ≡ sampler.old.session.label) × (sampler.new.session.limit ≡ sampler.old.session.limit) }
     ensures count { sampler.new.session.logged ≤ sampler.old.session.logged + 1 }
-    // How many are held, or lost where the disk failed.
+    // At most this sample's result is held beside those that were; what isn't logged isn't. Only what was held may be lost.
     ensures held { OnOk result (held_in sampler.new.session.place ≤ held_in sampler.old.session.place + 1) }
-    ensures unheld { IfErr result (λ e. e ≢ Failing → held_in sampler.new.session.place ≤ held_in sampler.old.session.place) }
-    ensures lost { IfErr result (λ e. e ≡ Failing → lost_in sampler.new.session.place ≤ held_in sampler.old.session.place) }
+    ensures unheld { OnErr result (held_in sampler.new.session.place ≤ held_in sampler.old.session.place) }
+    ensures lost { lost_in sampler.new.session.place ≤ held_in sampler.old.session.place }
+    // Where no metric is asked for nothing is held.
+    ensures idle { IfOk result (λ count. count ≡ 0 → held_in sampler.new.session.place ≤ held_in sampler.old.session.place) }
     ensures goes { IfOk result (TakesAt D.Disk script.now.config.groups server.now sampler.old sampler.new seat.old.tokens seat.new.tokens disk.old disk.new now) }
     ensures stops { IfErr result (StopsAt D.Disk script.now.config.groups server.now sampler.old sampler.new seat.old.tokens seat.new.tokens disk.old disk.new now) }
     ensures working { OnOk result (IsWorking sampler.new.session) }
@@ -110,7 +112,7 @@ pub fn sample<'a, D: Disk, C: Clock, T: Turn>(
     ensures same { (sampler.new.session.label ≡ sampler.old.session.label) × (sampler.new.session.limit ≡ sampler.old.session.limit) }
     ensures count { sampler.new.session.logged ≤ sampler.old.session.logged + 1 }
     // Between samples nothing is held.
-    ensures held { held_in sampler.old.session.place ≡ 0 → OnOk result (held_in sampler.new.session.place ≡ 0) × IfErr result (λ e. e ≢ Failing → held_in sampler.new.session.place ≡ 0) }
+    ensures held { held_in sampler.old.session.place ≡ 0 → held_in sampler.new.session.place ≡ 0 }
     ensures goes { OnOk result ((s : SampleTaken) × GoesOn C.Clock D.Disk script.now.config.groups server.now sampler.old sampler.new seat.old.tokens seat.new.tokens clock.old clock.new disk.old disk.new (s ∷ [])) }
     ensures stops { IfErr result (StopsSampling C.Clock D.Disk script.now.config.groups server.now sampler.old sampler.new seat.old.tokens seat.new.tokens clock.old clock.new disk.old disk.new [] left) }
     ensures working { OnOk result (IsWorking sampler.new.session) }
@@ -152,7 +154,7 @@ pub fn sample_all<'a, D: Disk, C: Clock, T: Turn>(
     ensures same { (sampler.new.session.label ≡ sampler.old.session.label) × (sampler.new.session.limit ≡ sampler.old.session.limit) }
     ensures count { sampler.new.session.logged ≤ count }
     // Between samples nothing is held.
-    ensures held { held_in sampler.old.session.place ≡ 0 → OnOk result (held_in sampler.new.session.place ≡ 0) × IfErr result (λ e. e ≢ Failing → held_in sampler.new.session.place ≡ 0) }
+    ensures held { held_in sampler.old.session.place ≡ 0 → held_in sampler.new.session.place ≡ 0 }
     ensures goes { OnOk result ((taken : Sequence SampleTaken) × (length taken ≡ count) × GoesOn C.Clock D.Disk script.now.config.groups server.now sampler.old sampler.new seat.old.tokens seat.new.tokens clock.old clock.new disk.old disk.new taken) }
     ensures stops { IfErr result (λ e. (taken : Sequence SampleTaken) × (left : ℕ) × (length taken + left ≡ samples) × (length taken < count)
         × StopsSampling C.Clock D.Disk script.now.config.groups server.now sampler.old sampler.new seat.old.tokens seat.new.tokens clock.old clock.new disk.old disk.new taken left e) }

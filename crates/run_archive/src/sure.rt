@@ -18,7 +18,8 @@ pub(crate) fn make_sure<D: Disk>(disk: &mut D, session: &mut Session) -> Result<
     requires working { IsWorking session.old }
     ensures same { (session.new.label ≡ session.old.label) × (session.new.limit ≡ session.old.limit) × (session.new.logged ≡ session.old.logged) }
     ensures working { OnOk result (IsWorking session.new) }
-    ensures none { OnOk result (held_in session.new.place ≡ 0) }
+    // Nothing is held any more, whatever comes of it.
+    ensures none { held_in session.new.place ≡ 0 }
     ensures syncs { OnOk result (OverAny D.Disk session.old disk.old (λ left events start. KeepsRun D.Disk left (behind events Event.synced) start session.new disk.new)) }
     ensures kinds { IfErr result (λ e. e ≡ Failing) }
     ensures failed { OnErr result (OverAny D.Disk session.old disk.old (λ left events start. WentBy D.Disk run_label session.old.limit left events [] start disk.new)) }

@@ -22,6 +22,7 @@ loop-number-init g c =
       limit = refl;
       few = omega (arith, c.requires.none);
       working = c.requires.working;
+      held = λ none. none;
       goes = ([], refl, goes_nowhere g.C.Clock g.D.Disk c.args.script.now.config.groups c.args.server.now sampler sampler seat clock clock disk refl (λ tells. refl));
       quiet = refl;
       clock_quiet = refl;
@@ -72,6 +73,7 @@ loop-number-preserved g c =
       limit = c.sample.ensures.same.1 ∙ c.loop-number.invariant.limit;
       few = omega (arith, c.sample.ensures.count, c.loop-number.invariant.few);
       working = c.in_ok-sample.ensures.working;
+      held = λ none. c.sample.ensures.held (c.loop-number.invariant.held none);
       goes = (
         so_far.0 ++ more.0 ∷ [],
         omega (arith, length-append so_far.0 (more.0 ∷ []), so_far.1),

@@ -2,7 +2,7 @@
 use Rattle.std.proofs.Common.{◌≡◌, ◌≤◌, List, length}
 use Rattle.fetch_engine.specs.Servers.{IsSeated}
 use Rattle.fetch_engine.specs.Visits.{AreLoaded}
-use Rattle.logging_session.specs.Keeping.{IsWorking}
+use Rattle.logging_session.specs.Keeping.{IsWorking, held_in}
 use Rattle.run_archive.specs.Samples.{SampleTaken}
 use Rattle.run_archive.specs.Sampling.{GoesOn}
 use Rattle.run_archive.proofs.sampling.sample_all.Given as goal
@@ -15,6 +15,7 @@ invariant-loop-number g l = record {
   limit : l.sampler.session.limit ≡ l.fn.sampler.session.limit;
   few : l.sampler.session.logged ≤ l.number;
   working : IsWorking l.sampler.session;
+  held : held_in l.fn.sampler.session.place ≡ 0 → held_in l.sampler.session.place ≡ 0;
   goes : (taken : List SampleTaken) × (length taken ≡ l.number)
       × GoesOn g.C.Clock g.D.Disk l.script.config.groups l.server l.fn.sampler l.sampler l.fn.seat.tokens l.seat.tokens l.fn.clock l.clock l.fn.disk l.disk taken;
   quiet : g.D.Disk.faults l.disk ≡ g.D.Disk.faults l.fn.disk;
