@@ -72,6 +72,7 @@ fn write_full<D: Disk>(disk: &mut D, run: &mut Run<'_>) -> Result<(), Ending>
     ensures marked { OnOk result (held_in run.new.sampler.session.place ≤ array_vec_len run.new.marks) }
     ensures room { OnOk result (array_vec_len run.new.marks < 64) }
     ensures unmarked { OnErr result (run.new.marks ≡ run.old.marks) }
+    ensures unheld { OnErr result (held_in run.new.sampler.session.place ≤ array_vec_len run.new.marks) }
     ensures lost { OnErr result (lost_in run.new.sampler.session.place ≤ array_vec_len run.new.marks) }
     ensures kinds { IfErr result (λ e. e ≡ Failing) }
     ensures keeps { OnOk result (OverAny D.Disk run.old.sampler.session disk.old (λ left events start. KeepsRun D.Disk left events start run.new.sampler.session disk.new)) }

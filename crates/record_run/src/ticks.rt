@@ -1,5 +1,5 @@
 //! A tick: a sample of regions on which nobody else acts.
-ghost use Rattle.std.specs.Prelude.{◌≡◌, ◌≢◌, ◌⊎◌, ◌<◌, ◌≤◌, ◌+◌, ◌++◌, ◌∷◌, [], ℕ, IfErr, OnErr, OnOk};
+ghost use Rattle.std.specs.Prelude.{◌≡◌, ◌≢◌, ◌<◌, ◌≤◌, ◌+◌, ◌++◌, ◌∷◌, [], ℕ, IfErr, OnErr, OnOk};
 ghost use Rattle.arrayvec.specs.ArrayVec.{array_vec_len};
 ghost use Rattle.run_script.specs.declared.script.Line.TheVariants.{Tick};
 ghost use Rattle.logging_session.specs.Keeping.{IsFailed, IsWorking, held_in, lost_in};
@@ -19,11 +19,17 @@ use run_script::Script;
 use script_runs::{Ending, make_room, put_one};
 use std::alloc::Global;
 
-/// Puts a mark behind the others. Where its own result alone is held, those before it were written, and their marks fall away.
-fn put_mark(marks: &mut ArrayVec<usize, 64>, held: u32, mark: usize)
+/// Puts the mark of a tick's line, where it asked for some metrics, so many: behind the others. Where its own result alone is held, those before
+/// it were written, and their marks fall away.
+fn put_mark(marks: &mut ArrayVec<usize, 64>, count: u64, held: u32, mark: usize)
     requires room { array_vec_len marks.old < 64 }
-    ensures { ((held ≤ 1) × (marks.new.items ≡ mark ∷ [])) ⊎ ((1 < held) × (marks.new.items ≡ marks.old.items ++ mark ∷ [])) }
+    ensures none { count ≡ 0 → marks.new.items ≡ marks.old.items }
+    ensures alone { 0 < count → held ≤ 1 → marks.new.items ≡ mark ∷ [] }
+    ensures behind { 0 < count → 1 < held → marks.new.items ≡ marks.old.items ++ mark ∷ [] }
 {
+    if count == 0 {
+        return;
+    }
     if held <= 1 {
         marks.clear();
     }
@@ -71,13 +77,12 @@ pub(crate) fn tick<'a, D: Disk>(
         return Err(Ending::NoMemory);
     };
     let count = sample_at(alloc, disk, &mut run.sampler, script, server, seat, now)?;
-    if count != 0 {
-        put_mark(
-            &mut run.marks,
-            run.sampler.session.held(),
-            run.out.len(),
-        );
-    }
+    put_mark(
+        &mut run.marks,
+        count,
+        run.sampler.session.held(),
+        run.out.len(),
+    );
     put_one(&mut run.out, b"tick", count);
     Ok(())
 }
