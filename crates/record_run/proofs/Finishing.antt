@@ -1,5 +1,5 @@
 -- A recording once what was logged is flushed.
-use Rattle.std.proofs.Common.{◌≡◌, ◌≢◌, ◌⊎◌, inl, inr, ℕ, List, [], length, codes, sym, ap, ◌∙◌, subst}
+use Rattle.std.proofs.Common.{◌≡◌, ◌≢◌, ◌⊎◌, inl, inr, ℕ, ◌-◌, ◌≤◌, List, [], length, codes, sym, ap, ◌∙◌, subst, arith}
 use Rattle.pcp_base.specs.Time.{Moment}
 use Rattle.pcp_model.specs.Disk.{Files, IsSettled, contents_of}
 use Rattle.pcp_outside.specs.declared.clocks.Clock.{Ghosts as ClockGhosts}
@@ -11,14 +11,14 @@ use Rattle.fetch_engine.specs.declared.server.Mounted.{Mounted}
 use Rattle.logger_core.specs.Reopening.{IsLeft as IsLeftBy}
 use Rattle.logging_session.specs.Course.{WentBy}
 use Rattle.logging_session.specs.Events.{closing}
-use Rattle.logging_session.specs.Keeping.{AreWhole, Carried}
+use Rattle.logging_session.specs.Keeping.{AreWhole, Carried, held_in}
 use Rattle.run_script.specs.declared.script.Script.{Script}
 use Rattle.script_runs.specs.declared.ending.Ending.{Ending}
 use Rattle.script_runs.specs.declared.ending.Ending.TheVariants as ends
 use Rattle.script_runs.specs.Archives.{run_label}
 use Rattle.text_lines.specs.Spelling.{one_number}
 use Rattle.run_archive.specs.declared.replayed.Replayed.{Replayed}
-use Rattle.run_archive.specs.Endings.{EndsAs, told_behind}
+use Rattle.run_archive.specs.Endings.{EndsAs, before_lost, told_behind}
 use Rattle.run_archive.specs.Kept.{HasDone, KeepsRun, OverAny}
 use Rattle.run_archive.specs.Outcomes.{HasFinished}
 use Rattle.run_archive.proofs.Outcomes.{has_finished}
@@ -28,6 +28,19 @@ use Rattle.record_run.specs.Recordings.{Counts}
 use Rattle.record_run.specs.Stopping.{LoggingDid, LogsResults, OpensForLast}
 use Rattle.record_run.proofs.Turning.{did_else, fault_did, last_else, stops_else, took_most}
 use Rattle.record_run.proofs.Undone.{is_failing}
+
+-- where nothing is marked nothing is lost
+pub unmarked_told : (e : Ending) (marks out output : List ℕ) (logged told lost : ℕ) → marks ≡ [] → out ≡ [] → lost ≤ length marks → told ≡ logged - lost → output ≡ told_behind e (before_lost marks lost out) (logged - lost)
+    → (told ≡ logged) × (output ≡ told_behind e [] logged)
+unmarked_told e marks out output logged told lost unmarked empty within counted is =
+    let few : length marks ≡ 0 = ap (λ (ms : List ℕ). length ms) unmarked in
+    let none : logged - lost ≡ logged = omega (arith, within, few) in (
+      counted ∙ none,
+      is
+          ∙ ap (λ (ms : List ℕ). told_behind e (before_lost ms lost out) (logged - lost)) unmarked
+          ∙ ap (λ (n : ℕ). told_behind e out n) none
+          ∙ ap (λ (lines : List ℕ). told_behind e lines logged) empty,
+    )
 
 -- how many there are, and what is told of them
 counts_as : (samples : ℕ) (moments : List Moment) (results : List Fetched) (r : Replayed) (e : Ending) (logged : ℕ) → Took samples (length moments) e → r.output ≡ told_behind e [] logged → logged ≡ length results → Counts samples moments results r e
@@ -63,7 +76,7 @@ module _ {C D : Type 0} (c : ClockGhosts C) (d : DiskGhosts D) (clock_was clock_
   none_left k well = none_more k ends.NoMemory tt (did_else h.beside.sampled ends.NoMemory tt limit left k.events k.more e well k.did)
 
   module _ (flushed : r.ending ≢ ends.DiskFault → OverAny d is mid (λ left events start.
-      (now : Carried) × KeepsRun d left (closing events) start now new × (now.limit ≡ is.limit) × IsSettled (d.held new) × (AreWhole left → AreWhole (contents_of (d.held new)))))
+      (now : Carried) × KeepsRun d left (closing events) start now new × (now.limit ≡ is.limit) × (held_in now.place ≡ 0) × IsSettled (d.held new) × (AreWhole left → AreWhole (contents_of (d.held new)))))
       (fails : e ≢ ends.DiskFault → r.ending ≡ ends.DiskFault → OverAny d is mid (λ left events start. WentBy d run_label is.limit left events [] start new))
       (failed : e ≡ ends.DiskFault → (r.ending ≡ ends.DiskFault) × (new ≡ mid))
       (ends_as : EndsAs e r.ending) (logged : r.logged ≡ is.logged) (output : r.output ≡ told_behind r.ending [] is.logged) where

@@ -21,6 +21,7 @@ use Rattle.run_archive.specs.Endings.{flushed_line}
 use Rattle.run_archive.specs.Kept.{KeepsRun, OverAny}
 use Rattle.record_run.specs.declared.run.Run.{Run}
 use Rattle.record_run.specs.States.{Follow, GoesTo, HaltsAt, Stands}
+use Rattle.record_run.proofs.Leading.{kept_leads}
 
 flushing_regions : (items : List Item) (s : RunState) → (flushing items s).regions ≡ s.regions
 flushing_regions [] s = refl
@@ -43,9 +44,9 @@ module _ {D : Type 0} (d : DiskGhosts D) (script : Script) (server : List Mounte
   followed : Follows script server is.running seat s.regions
   followed = subst (λ (r : Running). Follows script server r seat s.regions) (sym same_running) stands.follow.follows
 
-  pub flush_goes : is.sampler.plans ≡ was.sampler.plans → is.out.items ≡ flushed_line was.out.items was.sampler.session.logged
+  pub flush_goes : is.marks.items ≡ [] → is.sampler.plans ≡ was.sampler.plans → is.out.items ≡ flushed_line was.out.items was.sampler.session.logged
       → OverAny d was.sampler.session old (λ left events start. KeepsRun d left (flushed_behind (items_by events) events) start is.sampler.session new) → GoesTo d script server s was is seat old new Flush
-  flush_goes same_plans written flushes =
+  flush_goes unmarked same_plans written flushes =
       let items : List Item = items_by s.events in
       record {
         next = flushing items s;
@@ -58,6 +59,7 @@ module _ {D : Type 0} (d : DiskGhosts D) (script : Script) (server : List Mounte
           };
           plans = same_plans ∙ stands.plans ∙ sym (flushing_plans items s);
         };
+        marks = inl unmarked;
         kept = λ tells left start k.
             subst (λ (events : List Event). KeepsRun d left events start is.sampler.session new) (sym (flushing_events items s)) (flushes tells left s.events start k);
       }
@@ -77,7 +79,7 @@ module _ {D : Type 0} (d : DiskGhosts D) (script : Script) (server : List Mounte
       told = λ tells left start k. record {
         events = s.events;
         more = [];
-        did = inl (refl, refl);
+        did = (inl (refl, refl), kept_leads d left s.events start was.sampler.session old k);
         stands = subst (λ (c : Carried). KeepsRun d left s.events start c new) (sym session) (subst (λ (disk_now : D). KeepsRun d left s.events start was.sampler.session disk_now) (sym disk) k);
       };
     }
@@ -89,7 +91,7 @@ module _ {D : Type 0} (d : DiskGhosts D) (script : Script) (server : List Mounte
       told = λ tells left start k. record {
         events = s.events;
         more = [];
-        did = inl (refl, refl);
+        did = (inl (refl, refl), kept_leads d left s.events start was.sampler.session old k);
         stands = subst (λ (limit : ℕ). WentBy d run_label limit left s.events [] start new) (sym same_limit) (went tells left s.events start k);
       };
     }

@@ -1,6 +1,10 @@
 pub mod Causes
 pub mod Endings
 pub mod FlushLines
+pub mod Leading
+pub mod MarkPut
+pub mod Marks
+pub mod Lost
 pub mod Matches
 pub mod OneSeat
 pub mod PassLines

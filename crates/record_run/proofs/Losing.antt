@@ -16,7 +16,7 @@ use Rattle.run_archive.specs.Crashes.{LosesAtMostOne}
 use Rattle.run_archive.specs.Shown.{events_of}
 use Rattle.run_archive.proofs.Losing.{loses_last, loses_opening, loses_results}
 use Rattle.record_run.specs.Beside.{IsSampled}
-use Rattle.record_run.specs.Stopping.{FailsTakingLast, LeavesLastUnsure, LoggingDid, LogsResults, OpensForLast}
+use Rattle.record_run.specs.Stopping.{LeavesLastUnsure, LoggingDid, LogsResults, OpensForLast}
 
 module _ {script : Script} {server : List Mounted} {first final : List Token} {ending : Ending} {moments : List Moment} {results : List Fetched} (sampled : IsSampled script server first final ending moments results) (limit : ℕ) (left : Files) (events : List Event) (more : List Item) where
   logs_loses : LogsResults sampled events more → LosesAtMostOne events
@@ -25,9 +25,6 @@ module _ {script : Script} {server : List Mounted} {first final : List Token} {e
   opens_loses : OpensForLast sampled events more → LosesAtMostOne events
   opens_loses (x, are, none) = subst LosesAtMostOne (sym are) (loses_opening x.sample.stamp (events_of results) (loses_results results))
 
-  taking_loses : FailsTakingLast sampled limit left events more → LosesAtMostOne events
-  taking_loses (x, takes, are, some) = subst LosesAtMostOne (sym are) (loses_results results)
-
   unsure_loses : LeavesLastUnsure sampled events more → LosesAtMostOne events
   unsure_loses (before, last, is, are, none) = subst LosesAtMostOne (sym are) (loses_last before (report_of last))
 
@@ -35,8 +32,7 @@ module _ {script : Script} {server : List Mounted} {first final : List Token} {e
   did_loses ends.Done did = logs_loses did
   did_loses ends.DiskFault (inl did) = logs_loses did
   did_loses ends.DiskFault (inr (inl did)) = opens_loses did
-  did_loses ends.DiskFault (inr (inr (inl did))) = taking_loses did
-  did_loses ends.DiskFault (inr (inr (inr did))) = unsure_loses did
+  did_loses ends.DiskFault (inr (inr did)) = unsure_loses did
   did_loses (ends.Condition line) did = absurd did
   did_loses (ends.NotArchive file at) did = absurd did
   did_loses (ends.Compressed file) did = absurd did

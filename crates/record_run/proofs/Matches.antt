@@ -11,6 +11,10 @@ pub every_err : {T E : Type 0} (r : Result T E) (Q : E → Type 0) → ((e : E) 
 every_err (Ok x) Q q = tt
 every_err (Err e) Q q = q e
 
+pub on_err : {T E : Type 0} (r : Result T E) (P : Type 0) → P → OnErr r P
+on_err (Ok x) P p = tt
+on_err (Err e) P p = p
+
 pub both_ok : {T E : Type 0} (r : Result T E) {P Q R : Type 0} → OnOk r P → OnOk r Q → (P → Q → R) → OnOk r R
 both_ok (Ok x) p q both = both p q
 both_ok (Err e) p q both = tt

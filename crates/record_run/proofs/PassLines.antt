@@ -1,5 +1,6 @@
 -- A line of a pass is that of the run as a fold.
 use Rattle.std.proofs.Common.{◌≡◌, ◌⊎◌, inl, inr, ℕ, true, false, List, [], ◌++◌, Option, None, Some, refl, sym, ap, ◌∙◌, subst}
+use Rattle.arrayvec.specs.ArrayVec.{ArrayVec}
 use Rattle.pcp_base.specs.Time.{Moment}
 use Rattle.pcp_model.specs.Disk.{Files}
 use Rattle.pcp_outside.specs.declared.disk.Disk.{Ghosts as DiskGhosts}
@@ -22,6 +23,7 @@ use Rattle.run_archive.specs.Endings.{MayEnd}
 use Rattle.run_archive.specs.Kept.{KeepsRun}
 use Rattle.record_run.specs.declared.run.Run.{Run}
 use Rattle.record_run.specs.States.{Follow, GoesTo, HaltsAt, Stands}
+use Rattle.record_run.proofs.Leading.{kept_leads}
 
 -- a line that is neither a tick nor a flush
 abbrev pub IsOfPass : Line → Type 0
@@ -78,8 +80,8 @@ module _ {D : Type 0} (d : DiskGhosts D) (script : Script) (server : List Mounte
   kept_so : (left : Files) (start : D) → KeepsRun d left s.events start was.sampler.session disk → KeepsRun d left s.events start is.sampler.session disk
   kept_so left start k = subst (λ (c : Carried). KeepsRun d left s.events start c disk) (sym same_session) k
 
-  pub pass_goes : IsOfPass line → HasRun Now s.regions was.out.items is.out.items (pass_step script s.regions line) true → GoesTo d script server s was is after disk disk line
-  pass_goes of run =
+  pub pass_goes : is.marks ≡ was.marks → IsOfPass line → HasRun Now s.regions was.out.items is.out.items (pass_step script s.regions line) true → GoesTo d script server s was is after disk disk line
+  pass_goes same_marks of run =
       let f : (found : Regions) × (pass_step script s.regions line ≡ Some found) × Now found.0 × (is.out.items ≡ was.out.items ++ found.1) = found_of Now s.regions was.out.items is.out.items (pass_step script s.regions line) run in
       let next : RunState = record s { regions = f.0.0; output = s.output ++ f.0.1 } in
       record {
@@ -93,6 +95,7 @@ module _ {D : Type 0} (d : DiskGhosts D) (script : Script) (server : List Mounte
           };
           plans = ap (λ (sampler : Sampler). sampler.plans) same ∙ stands.plans;
         };
+        marks = inr (inl (refl, ap (λ (marks : ArrayVec ℕ). marks.items) same_marks));
         kept = λ tells left start k. kept_so left start k;
       }
 
@@ -109,14 +112,14 @@ module _ {D : Type 0} (d : DiskGhosts D) (script : Script) (server : List Mounte
         record {
           stands = followed f.1 f.2;
           why = (refl, f.0);
-          told = λ tells left start k. record { events = s.events; more = []; did = (refl, refl); stands = kept_so left start k };
+          told = λ tells left start k. record { events = s.events; more = []; did = ((refl, refl), kept_leads d left s.events start was.sampler.session disk k); stands = kept_so left start k };
         }
 
     wants : WasCut Now s.regions was.out.items is.out.items → Halting ends.NoMemory
     wants cut = record {
       stands = followed cut.1 cut.0;
       why = tt;
-      told = λ tells left start k. record { events = s.events; more = []; did = inl (refl, refl); stands = kept_so left start k };
+      told = λ tells left start k. record { events = s.events; more = []; did = (inl (refl, refl), kept_leads d left s.events start was.sampler.session disk k); stands = kept_so left start k };
     }
 
     pub pass_halts : (e : Ending) → ((e ≡ ends.Condition number) × HasRun Now s.regions was.out.items is.out.items (pass_step script s.regions line) false) ⊎ ((e ≡ ends.NoMemory) × WasCut Now s.regions was.out.items is.out.items) → Halting e
@@ -131,10 +134,10 @@ pass_ends before after number e (inr refused) = subst (λ (x : Ending). MayEnd b
 -- a session that works has not failed
 place_unfailed : (place : Place) → HasFound place ⊎ HasLogger place → HasFailed place → ⊥
 place_unfailed (places.Found archive) working failed = failed
-place_unfailed (places.Open kept) working failed = failed
+place_unfailed (places.Open b) working failed = failed
 place_unfailed places.Lost working failed = failed
-place_unfailed places.Failed (inl found) failed = found
-place_unfailed places.Failed (inr open_) failed = open_
+place_unfailed (places.Failed lost) (inl found) failed = found
+place_unfailed (places.Failed lost) (inr open_) failed = open_
 
 pub working_unfailed : (s : Carried) → IsWorking s → IsFailed s → ⊥
 working_unfailed s working failed = place_unfailed s.place working failed

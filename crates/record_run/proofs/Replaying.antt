@@ -1,5 +1,5 @@
 -- The run of a script over any files.
-use Rattle.std.proofs.Common.{◌≡◌, ◌≢◌, ℕ, ◌≤◌, List, [], refl, sym, ap, ◌∙◌, subst}
+use Rattle.std.proofs.Common.{◌≡◌, ◌≢◌, ℕ, ◌≤◌, List, [], refl, sym, ap, ◌∙◌, subst, arith}
 use Rattle.pcp_model.specs.Disk.{CrashImage, Files, contents_of}
 use Rattle.pcp_outside.specs.Causes.{Rose}
 use Rattle.pcp_outside.specs.Devices.{LeavesOnly}
@@ -18,7 +18,7 @@ use Rattle.run_passes.specs.Seen.{HaveSeen}
 use Rattle.script_runs.specs.declared.ending.Ending.{Ending}
 use Rattle.script_runs.specs.Closing.{closed_regions}
 use Rattle.script_runs.specs.Regions.{made_regions}
-use Rattle.script_runs.specs.Runs.{Does, Halts, run_start, with_end}
+use Rattle.script_runs.specs.Runs.{Halts, RunDoes, run_start, with_end}
 use Rattle.script_runs.proofs.Going.{ran_none}
 use Rattle.run_archive.specs.declared.replayed.Replayed.{Replayed}
 use Rattle.run_archive.specs.Endings.{MayEnd}
@@ -69,6 +69,7 @@ module _ (script : Script) (server : List Mounted) (seat : List Token) (r : Repl
       ran = ran_none script;
       halts = subst (λ (e : Ending). Halts script 0 (run_start script) e) (sym is) (halts_before fault);
       output_is = nothing ∙ sym (ap (λ (e : Ending). with_end e (run_start script)) is ∙ tells_nothing fault);
+      further = record { lines = 0; state = run_start script; ran = ran_none script; on = omega arith; same = λ other. (refl, refl) };
       closed = refl;
     };
     counted = none;
@@ -83,7 +84,7 @@ module _ (script : Script) (server : List Mounted) (seat : List Token) (r : Repl
     told = λ tells. record {
       events = [];
       more = [];
-      on = runs_nothing d only_now counts_now limit (◌≡◌ {A = ℕ} 0 0) (λ left. Does script limit left 0 (run_start script) r.ending [] []) old new r.ending
+      on = runs_nothing d only_now counts_now limit (◌≡◌ {A = ℕ} 0 0) (λ left. RunDoes limit left ran_nothing.ran [] []) old new r.ending
           (subst (λ (e : Ending). IsUnrecovered d old new e) (sym is) (unrecovered tells)) (half tells) refl;
     };
   }
@@ -98,12 +99,11 @@ replay_ended d only_now counts_now script limit server seat s old middle new r s
   told = λ tells.
       let left : Files = contents_of (d.held middle) in
       let b : IsBegun d old middle s = begun tells in
-      let e : EndsFrom d script limit left middle new over.run.ran.count over.run.ran.last r.ending =
-      subst (λ (n : ℕ). EndsFrom d script n left middle new over.run.ran.count over.run.ran.last r.ending) same (over.told tells left b.keeps) in
+      let e : EndsFrom d limit left middle new over.run.ran = subst (λ (n : ℕ). EndsFrom d n left middle new over.run.ran) same (over.told tells left b.keeps) in
       record {
         events = e.events;
         more = e.more;
-        on = went_on d only_now counts_now limit (over.run.ran.count ≡ 0) (λ files. Does script limit files over.run.ran.count over.run.ran.last r.ending e.events e.more) old middle b.archive b.unwrapped b.was b.sure (half tells) e.events e.more new r.ending
+        on = went_on d only_now counts_now limit (over.run.ran.further.lines ≡ 0) (λ files. RunDoes limit files over.run.ran e.events e.more) old middle b.archive b.unwrapped b.was b.sure (half tells) e.events e.more new r.ending
             e.finished e.did;
       };
 }

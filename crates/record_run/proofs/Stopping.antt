@@ -1,7 +1,6 @@
 -- Why a recording ends as it does, and what it did to its archive, from what stopped its samples.
 use Rattle.std.proofs.Common.{◌≡◌, ◌⊎◌, inl, inr, ℕ, ◌<◌, ◌≤◌, List, [], ◌∷◌, ◌++◌, length, Option, refl, sym, subst}
 use Rattle.pcp_base.specs.Time.{Moment}
-use Rattle.pcp_base.specs.declared.result.Item.TheVariants.{Sample}
 use Rattle.pcp_model.specs.Disk.{Files}
 use Rattle.pcp_outside.specs.declared.disk.Disk.{Ghosts as DiskGhosts}
 use Rattle.region_rule.specs.Seats.{Token}
@@ -17,7 +16,7 @@ use Rattle.run_script.specs.declared.script.Script.{Script}
 use Rattle.script_runs.specs.declared.ending.Ending.{Ending}
 use Rattle.script_runs.specs.declared.ending.Ending.TheVariants as ends
 use Rattle.script_runs.specs.declared.ending.LimitKind.TheVariants as kinds
-use Rattle.script_runs.specs.Archives.{IsTaken, IsTurnedAway, report_of, run_label}
+use Rattle.script_runs.specs.Archives.{IsTurnedAway, report_of, run_label}
 use Rattle.script_runs.specs.Groups.{Plan}
 use Rattle.run_archive.specs.Endings.{EndsUnlogged}
 use Rattle.run_archive.specs.Kept.{HasDone, IsLeft, KeepsRun, LeavesUnlogged, TurnsItAway}
@@ -124,9 +123,9 @@ module _ {script : Script} {server : List Mounted} {first final : List Token} {e
     logged_done (ends.NotLater last) all kept = absurd all
     logged_done (ends.Changed pmid) all kept = absurd all
 
-    -- the disk failed as the last one was to be made sure
+    -- the disk failed as the last one was to be written or made sure
     pub unsure_done : (before : List Fetched) (last : Fetched) → results ≡ before ++ last ∷ [] → WentBy d run_label s.limit left (with_report (events_of before) (report_of last)) [] start disk → Did ends.DiskFault
-    unsure_done before last are went = record { events = with_report (events_of before) (report_of last); more = []; did = inr (inr (inr (before, last, are, refl, refl))); stands = went }
+    unsure_done before last are went = record { events = with_report (events_of before) (report_of last); more = []; did = inr (inr (before, last, are, refl, refl)); stands = went }
 
     -- also where too many metrics are asked for behind it
     pub many_done : (number : ℕ) → KeepsRun d left (events_of results) start s disk → Did (ends.Limit kinds.Sets number)
@@ -149,15 +148,8 @@ module _ {script : Script} {server : List Mounted} {first final : List Token} {e
       want_done (inl kept) = all_done ends.NoMemory (inl (refl, refl)) kept
       want_done (inr kept) = record { events = opened; more = []; did = inr (x, refl, refl); stands = kept }
 
-      fault_done : WentBy d run_label s.limit left (events_of results) [] start disk ⊎ (WentBy d run_label s.limit left (events_of results) (Sample (shown_last sampled x).result ∷ []) start disk × IsTaken s.limit left (events_of results) (shown_last sampled x))
-          → Did ends.DiskFault
-      fault_done (inl went) = all_done ends.DiskFault (inl (refl, refl)) went
-      fault_done (inr (went, takes)) = record {
-        events = events_of results;
-        more = Sample (shown_last sampled x).result ∷ [];
-        did = inr (inr (inl (x, subst (λ (n : ℕ). IsTaken n left (events_of results) (shown_last sampled x)) same takes, refl, refl)));
-        stands = went;
-      }
+      fault_done : WentBy d run_label s.limit left (events_of results) [] start disk → Did ends.DiskFault
+      fault_done went = all_done ends.DiskFault (inl (refl, refl)) went
 
       -- the last one isn't
       pub unlogged_done : (e : Ending) → EndsUnlogged e → LeavesUnlogged d left (events_of results) start (shown_last sampled x) s disk e → Did e

@@ -2,7 +2,6 @@
 use Rattle.std.proofs.Common.{◌≡◌, ⊎_elim, inl, inr, ℕ, ◌<◌, ◌≤◌, List, [], ◌∷◌, length, refl, sym, ap, ◌∙◌, subst}
 use Rattle.pcp_base.specs.Time.{Moment}
 use Rattle.pcp_base.specs.declared.result.Item.{Item}
-use Rattle.pcp_base.specs.declared.result.Item.TheVariants.{Sample}
 use Rattle.pcp_model.specs.Disk.{Files}
 use Rattle.pcp_outside.specs.declared.disk.Disk.{Ghosts as DiskGhosts}
 use Rattle.region_rule.specs.Seats.{Token}
@@ -27,7 +26,8 @@ use Rattle.run_archive.specs.Kept.{HasDone, KeepsRun, LeavesUnlogged}
 use Rattle.run_archive.specs.Sampling.{AsksInVain, MayRefuse, ShowsInVain, StopsAt}
 use Rattle.run_archive.specs.Shown.{pmids_by}
 use Rattle.record_run.specs.declared.run.Run.{Run}
-use Rattle.record_run.specs.States.{Follow, HaltsAt, Stands}
+use Rattle.record_run.specs.States.{Follow, HaltsAt, Leads, Stands}
+use Rattle.record_run.proofs.Leading.{kept_leads}
 use Rattle.record_run.proofs.SampleReads.{Reads, sample_reads}
 use Rattle.record_run.proofs.TickGoes.{pmids_same}
 
@@ -66,29 +66,31 @@ module _ {D : Type 0} (d : DiskGhosts D) (script : Script) (s : RunState) (now :
 
   module _ (left : Files) (start : D) (session : Carried) (disk : D) where
     abbrev Did : Ending → List Event → List Item → Type 0
-    Did e events more = LineDoes script session.limit left s (Tick now) e events more
+    Did e events more = LineDoes script session.limit left s (Tick now) e events more × Leads session.limit left events
 
     abbrev Done : Ending → Type 0
     Done e = HasDone d left start session disk e (Did e)
 
-    shows_does : (e : Ending) → EndsUnlogged e → LeavesUnlogged d left s.events start (shown x) session disk e → Done e
-    shows_does (ends.Limit kinds.Sets count) u leaves = absurd u
-    shows_does (ends.Limit kinds.Record count) u leaves = record { events = opening x.now s.events; more = []; did = (x, leaves.away, refl, refl); stands = leaves.kept }
-    shows_does (ends.Limit kinds.Meta count) u leaves = record { events = opening x.now s.events; more = []; did = (x, leaves.away, refl, refl); stands = leaves.kept }
-    shows_does (ends.Limit kinds.Index count) u leaves = record { events = opening x.now s.events; more = []; did = (x, leaves.away, refl, refl); stands = leaves.kept }
-    shows_does (ends.Limit kinds.Volume count) u leaves = record { events = opening x.now s.events; more = []; did = (x, leaves.away, refl, refl); stands = leaves.kept }
-    shows_does (ends.NotLater last) u leaves = record { events = opening x.now s.events; more = []; did = (x, leaves.away, refl, refl); stands = leaves.kept }
-    shows_does (ends.Changed pmid) u leaves = record { events = opening x.now s.events; more = []; did = (x, leaves.away, refl, refl); stands = leaves.kept }
-    shows_does ends.NoMemory u (inl kept) = record { events = s.events; more = []; did = inl (refl, refl); stands = kept }
-    shows_does ends.NoMemory u (inr kept) = record { events = opening x.now s.events; more = []; did = inr (x, refl, refl); stands = kept }
-    shows_does ends.DiskFault u (inl went) = record { events = s.events; more = []; did = inl (refl, refl); stands = went }
-    shows_does ends.DiskFault u (inr (went, taken)) = record { events = s.events; more = Sample (shown x).result ∷ []; did = inr (inr (x, taken, refl, refl)); stands = went }
-    shows_does ends.Done u leaves = absurd u
-    shows_does (ends.Condition line) u leaves = absurd u
-    shows_does (ends.NotArchive file at) u leaves = absurd u
-    shows_does (ends.Compressed file) u leaves = absurd u
-    shows_does (ends.ClockEnd samples) u leaves = absurd u
-    shows_does (ends.ClockFault samples) u leaves = absurd u
+    abbrev so : (events : List Event) → KeepsRun d left events start session disk → Leads session.limit left events
+    so events k = kept_leads d left events start session disk k
+
+    shows_does : (e : Ending) → EndsUnlogged e → Leads session.limit left s.events → LeavesUnlogged d left s.events start (shown x) session disk e → Done e
+    shows_does (ends.Limit kinds.Sets count) u before leaves = absurd u
+    shows_does (ends.Limit kinds.Record count) u before leaves = record { events = opening x.now s.events; more = []; did = ((x, leaves.away, refl, refl), so (opening x.now s.events) leaves.kept); stands = leaves.kept }
+    shows_does (ends.Limit kinds.Meta count) u before leaves = record { events = opening x.now s.events; more = []; did = ((x, leaves.away, refl, refl), so (opening x.now s.events) leaves.kept); stands = leaves.kept }
+    shows_does (ends.Limit kinds.Index count) u before leaves = record { events = opening x.now s.events; more = []; did = ((x, leaves.away, refl, refl), so (opening x.now s.events) leaves.kept); stands = leaves.kept }
+    shows_does (ends.Limit kinds.Volume count) u before leaves = record { events = opening x.now s.events; more = []; did = ((x, leaves.away, refl, refl), so (opening x.now s.events) leaves.kept); stands = leaves.kept }
+    shows_does (ends.NotLater last) u before leaves = record { events = opening x.now s.events; more = []; did = ((x, leaves.away, refl, refl), so (opening x.now s.events) leaves.kept); stands = leaves.kept }
+    shows_does (ends.Changed pmid) u before leaves = record { events = opening x.now s.events; more = []; did = ((x, leaves.away, refl, refl), so (opening x.now s.events) leaves.kept); stands = leaves.kept }
+    shows_does ends.NoMemory u before (inl kept) = record { events = s.events; more = []; did = (inl (refl, refl), before); stands = kept }
+    shows_does ends.NoMemory u before (inr kept) = record { events = opening x.now s.events; more = []; did = (inr (x, refl, refl), so (opening x.now s.events) kept); stands = kept }
+    shows_does ends.DiskFault u before went = record { events = s.events; more = []; did = (inl (refl, refl), before); stands = went }
+    shows_does ends.Done u before leaves = absurd u
+    shows_does (ends.Condition line) u before leaves = absurd u
+    shows_does (ends.NotArchive file at) u before leaves = absurd u
+    shows_does (ends.Compressed file) u before leaves = absurd u
+    shows_does (ends.ClockEnd samples) u before leaves = absurd u
+    shows_does (ends.ClockFault samples) u before leaves = absurd u
 
 module _ {D : Type 0} (d : DiskGhosts D) (script : Script) (server : List Mounted) (s : RunState) (was is : Run) (before after : List Token) (old new : D) (now : Moment) (number : ℕ)
     (manned : IsManned server was.running before) (same_running : is.running ≡ was.running) (alone : Alone was.running after) (stands : Stands script server was before s) (written : is.out.items ≡ was.out.items) where
@@ -111,7 +113,7 @@ module _ {D : Type 0} (d : DiskGhosts D) (script : Script) (server : List Mounte
     here = followed (readings_are_states script server was.running before after s.regions manned loaded alone stands.follow.follows).0 (ap (λ (c : Carried). c.logged) session)
 
     pub tick_wants : Halting ends.NoMemory
-    tick_wants = record { stands = here; why = tt; told = λ tells left start k. record { events = s.events; more = []; did = inl (refl, refl); stands = kept_so left start k } }
+    tick_wants = record { stands = here; why = tt; told = λ tells left start k. record { events = s.events; more = []; did = (inl (refl, refl), kept_leads d left s.events start was.sampler.session old k); stands = kept_so left start k } }
 
     asks_too_many : (names : List RegionReading) → AreRead server before names after → 1024 < length (pmids_by script.config.groups was.sampler.plans names now)
         → Halting (ends.Limit kinds.Sets (length (pmids_by script.config.groups was.sampler.plans names now)))
@@ -121,7 +123,7 @@ module _ {D : Type 0} (d : DiskGhosts D) (script : Script) (server : List Mounte
         record {
           stands = here;
           why = record { now = now; is = refl; many = subst (λ (ps : List ℕ). 1024 < length ps) same many; are = ap (λ (ps : List ℕ). length ps) same };
-          told = λ tells left start k. record { events = s.events; more = []; did = (refl, refl); stands = kept_so left start k };
+          told = λ tells left start k. record { events = s.events; more = []; did = ((refl, refl), kept_leads d left s.events start was.sampler.session old k); stands = kept_so left start k };
         }
 
   asks_in_vain : (e : Ending) → AsksInVain d script.config.groups server was.sampler is.sampler before after old new now e → Halting e
@@ -160,8 +162,8 @@ module _ {D : Type 0} (d : DiskGhosts D) (script : Script) (server : List Mounte
       stands = followed reads.follows v.counted;
       why = shows_why d script s now x number e v.why;
       told = λ tells left start k.
-          subst (λ (limit : ℕ). HasDone d left start is.sampler.session new e (LineDoes script limit left s (Tick now) e)) same_limit
-          (shows_does d script s now x left start is.sampler.session new e v.why
+          subst (λ (limit : ℕ). HasDone d left start is.sampler.session new e (λ events more. LineDoes script limit left s (Tick now) e events more × Leads limit left events)) same_limit
+          (shows_does d script s now x left start is.sampler.session new e v.why (subst (λ (limit : ℕ). Leads limit left s.events) (sym same_limit) (kept_leads d left s.events start was.sampler.session old k))
           (subst (λ (f : Fetched). LeavesUnlogged d left s.events start f is.sampler.session new e) shows_so (v.logs tells left s.events start k)));
     }
 

@@ -8,7 +8,7 @@ ghost use Rattle.run_script.specs.Rules.{KeepsRules};
 ghost use Rattle.run_passes.specs.Openings.{AreMade, IsOpened};
 ghost use Rattle.script_runs.specs.Archives.{run_label as label_of_runs};
 ghost use Rattle.script_runs.specs.declared.ending.Ending.TheVariants.{DiskFault as Failing, Done as AtEnd, NoMemory as Refused};
-ghost use Rattle.logging_session.specs.Keeping.{IsFailed, IsWorking};
+ghost use Rattle.logging_session.specs.Keeping.{IsFailed, IsWorking, held_in};
 ghost use Rattle.run_script.specs.Recording.{refused_line};
 ghost use Rattle.record_run.specs.Beside.{Beside, TellWriters};
 ghost use Rattle.record_run.specs.Halting.{Halts, IsRecorded, RefusedBy};
@@ -64,6 +64,7 @@ fn run<'a, R: Threads + Wait + Sync, D: Disk, C: Clock, T: Turn + Sync>(
     requires images { AreImages script.now }
     requires working { IsWorking sampler.old.session }
     requires none { sampler.old.session.logged ≡ 0 }
+    requires unheld { held_in sampler.old.session.place ≡ 0 }
     requires unstarted { sampler.old.plans ≡ None }
     requires some { 1 ≤ samples }
     ensures halts { Halts C.Clock D.Disk clock.old clock.new sampler.old.session sampler.new.session disk.old disk.new script.now samples server.now seat.old.tokens seat.new.tokens result }
@@ -72,6 +73,8 @@ fn run<'a, R: Threads + Wait + Sync, D: Disk, C: Clock, T: Turn + Sync>(
     ensures writers { TellWriters script.now server.now seat.new.tokens passes.new.items result }
     ensures cause { MayEndRecording C.Clock D.Disk clock.old clock.new disk.old disk.new result }
     ensures unfailed { result ≢ Failing → IsFailed sampler.new.session → ⊥ }
+    // Between samples nothing is held.
+    ensures unheld { held_in sampler.new.session.place ≡ 0 }
     ensures later { D.faults disk.old ≤ D.faults disk.new }
     ensures clock_later { C.faults clock.old ≤ C.faults clock.new }
     ensures quiet { result ≡ AtEnd → (D.faults disk.new ≡ D.faults disk.old) × (C.faults clock.new ≡ C.faults clock.old) }
@@ -157,7 +160,7 @@ fn record_over<R: Threads + Wait + Sync, D: Disk, C: Clock, T: Turn + Sync>(
         &mut sampler,
         samples,
     );
-    finish(disk, sampler.session, Vec::new(alloc), ending)
+    finish(disk, sampler.session, Vec::new(alloc), &[], ending)
 }
 
 /// Runs the writers where the files were refused: nothing is sampled or logged.

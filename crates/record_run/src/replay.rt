@@ -3,7 +3,7 @@ ghost use Rattle.std.specs.Prelude.{◌≡◌, ◌≤◌, [], ◌∷◌, length,
 ghost use Rattle.archive_recovery.specs.declared.outcome.RecoverFault.{RecoverFault as Unrecovered};
 ghost use Rattle.archive_recovery.specs.Halfway.{MayBeHalfway};
 ghost use Rattle.fetch_engine.specs.Servers.{IsSeated, Seated};
-ghost use Rattle.logging_session.specs.Keeping.{IsWorking};
+ghost use Rattle.logging_session.specs.Keeping.{IsWorking, held_in};
 ghost use Rattle.pcp_model.specs.Archive.{Readable};
 ghost use Rattle.pcp_model.specs.Disk.{CrashImage, contents_of};
 ghost use Rattle.pcp_outside.specs.Devices.{LeavesOnly};
@@ -19,6 +19,7 @@ ghost use Rattle.record_run.specs.Replays.{IsBegun, IsReplay, ReplaysOver};
 use crate::run::Run;
 use crate::steps::run_lines;
 use archive_recovery::{RecoverFault, recover};
+use arrayvec::ArrayVec;
 use fetch_engine::{Seat, Server};
 use logging_session::Session;
 use pcp_outside::Disk;
@@ -46,7 +47,7 @@ pub fn ending_of(fault: RecoverFault) -> Ending
 /// refused the disk is untouched.
 fn begin_session<D: Disk>(alloc: Global, disk: &mut D, volume: u64) -> Result<Session, Ending>
     requires limit { (1024 ≤ volume) × (volume ≤ 1073741824) }
-    ensures fresh { IfOk result (λ s. (s.limit ≡ volume) × (s.logged ≡ 0) × IsWorking s) }
+    ensures fresh { IfOk result (λ s. (s.limit ≡ volume) × (s.logged ≡ 0) × IsWorking s × (held_in s.place ≡ 0)) }
     ensures begun { D.tells → IfOk result (IsBegun D.Disk disk.old disk.new) }
     ensures refused { IfErr result (λ e. (fault : Unrecovered) × (e ≡ ended_by fault)) }
     ensures unrecovered { D.tells → IfErr result (IsUnrecovered D.Disk disk.old disk.new) }
@@ -65,7 +66,8 @@ fn begin_session<D: Disk>(alloc: Global, disk: &mut D, volume: u64) -> Result<Se
     }
 }
 
-/// Runs a script over what recovery left: its lines up to an end, then its passes are closed, and what was logged is flushed.
+/// Runs a script over what recovery left: its lines up to an end, then its passes are closed, and what was logged is flushed. Where results
+/// are lost, since the disk failed before they were written, the run ended at the tick of the first of them.
 fn replay_over<D: Disk>(
     alloc: Global,
     script: &Script,
@@ -80,6 +82,7 @@ fn replay_over<D: Disk>(
     requires manned { IsManned server.now running seat.old.tokens }
     requires working { IsWorking session }
     requires fresh { session.logged ≡ 0 }
+    requires unheld { held_in session.place ≡ 0 }
     ensures runs { Follows script.now server.now running seat.old.tokens (made_regions script.now) → ReplaysOver D.Disk script.now server.now seat.new.tokens session disk.old disk.new result }
     ensures seated { IsSeated server.now seat.new.tokens }
     ensures cause { MayEnd (D.faults disk.old) (D.faults disk.new) result.ending }
@@ -94,15 +97,17 @@ fn replay_over<D: Disk>(
         running,
         sampler,
         out: Vec::new(alloc),
+        marks: ArrayVec::new(),
     };
     let ending = run_lines(alloc, disk, &mut run, script, server, seat);
     let Run {
         running,
         sampler,
         out,
+        marks,
     } = run;
     running.close(alloc, server, seat);
-    finish(disk, sampler.session, out, ending)
+    finish(disk, sampler.session, out, marks.as_slice(), ending)
 }
 
 /// Runs a script over any files, with the passes of its regions and the logger's seat.

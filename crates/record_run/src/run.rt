@@ -1,4 +1,5 @@
-//! A run of a script on its way.
+//! A run between its lines.
+use arrayvec::ArrayVec;
 use run_archive::Sampler;
 use run_passes::Running;
 
@@ -9,5 +10,5 @@ pub(crate) struct Run<'a> {
     pub(crate) running: Running,
     pub(crate) sampler: Sampler<'a>,
     pub(crate) out: Vec<u8>,
-    pub(crate) marks: Vec<usize>,
+    pub(crate) marks: ArrayVec<usize, 64>,
 }

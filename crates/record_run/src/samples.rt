@@ -6,7 +6,7 @@ ghost use Rattle.fetch_engine.specs.Visits.{AreLoaded};
 ghost use Rattle.run_script.specs.Rules.{KeepsRules};
 ghost use Rattle.run_passes.specs.Crews.{ServesScript};
 ghost use Rattle.script_runs.specs.declared.ending.Ending.TheVariants.{DiskFault as Failing};
-ghost use Rattle.logging_session.specs.Keeping.{IsFailed, IsWorking};
+ghost use Rattle.logging_session.specs.Keeping.{IsFailed, IsWorking, held_in};
 ghost use Rattle.run_archive.specs.Samples.{SampleTaken};
 ghost use Rattle.run_archive.specs.Sampling.{GoesOn, MayStop, StopsSampling};
 ghost use Rattle.run_script.specs.Recording.{refused_line};
@@ -67,6 +67,7 @@ pub(crate) fn beside<'a, R: Threads + Wait + Sync, D: Disk, C: Clock, T: Turn + 
     requires seated { IsSeated server.now seat.old.tokens }
     requires working { IsWorking sampler.old.session }
     requires none { sampler.old.session.logged ≡ 0 }
+    requires unheld { held_in sampler.old.session.place ≡ 0 }
     requires some { 1 ≤ samples }
     ensures written { IfOk result.0 (λ done. HaveWritten script.now server.now passes.old.items done.items) }
     ensures taken { passes.new.items ≡ [] }
@@ -79,6 +80,7 @@ pub(crate) fn beside<'a, R: Threads + Wait + Sync, D: Disk, C: Clock, T: Turn + 
         × StopsSampling C.Clock D.Disk script.now.config.groups server.now sampler.old sampler.new seat.old.tokens seat.new.tokens clock.old clock.new disk.old disk.new taken left e) }
     ensures working { OnOk result.1 (IsWorking sampler.new.session) }
     ensures unfailed { IfErr result.1 (λ e. e ≢ Failing → IsFailed sampler.new.session → ⊥) }
+    ensures unheld { held_in sampler.new.session.place ≡ 0 }
     ensures cause { IfErr result.1 (MayStop C.Clock D.Disk disk.old disk.new clock.old clock.new) }
     ensures later { D.faults disk.old ≤ D.faults disk.new }
     ensures clock_later { C.faults clock.old ≤ C.faults clock.new }
@@ -103,6 +105,7 @@ pub(crate) fn beside<'a, R: Threads + Wait + Sync, D: Disk, C: Clock, T: Turn + 
             requires seated { IsSeated server.now seat.now.tokens }
             requires working { IsWorking sampler.now.session }
             requires none { sampler.now.session.logged ≡ 0 }
+            requires unheld { held_in sampler.now.session.place ≡ 0 }
             requires first { count ≤ samples }
             ensures seated { IsSeated server.entry.now seat.exit.now.tokens }
             ensures loads { AreLoaded seat.entry.now.tokens seat.exit.now.tokens }
@@ -113,6 +116,7 @@ pub(crate) fn beside<'a, R: Threads + Wait + Sync, D: Disk, C: Clock, T: Turn + 
                 × StopsSampling C.Clock D.Disk script.entry.now.config.groups server.entry.now sampler.entry.now sampler.exit.now seat.entry.now.tokens seat.exit.now.tokens clock.entry.now clock.exit.now disk.entry.now disk.exit.now taken left e) }
             ensures working { OnOk result (IsWorking sampler.exit.now.session) }
             ensures unfailed { IfErr result (λ e. e ≢ Failing → IsFailed sampler.exit.now.session → ⊥) }
+            ensures unheld { held_in sampler.exit.now.session.place ≡ 0 }
             ensures cause { IfErr result (MayStop C.Clock D.Disk disk.entry.now disk.exit.now clock.entry.now clock.exit.now) }
             ensures later { D.faults disk.entry.now ≤ D.faults disk.exit.now }
             ensures clock_later { C.faults clock.entry.now ≤ C.faults clock.exit.now }

@@ -1,7 +1,8 @@
 -- A line is that of the run as a fold.
-use Rattle.std.proofs.Common.{◌≡◌, ◌≢◌, ◌⊎◌, true, false, List, sym, ap, subst, arith, refl}
+use Rattle.std.proofs.Common.{◌≡◌, ◌≢◌, ◌⊎◌, ◌≤◌, ℕ, true, false, List, sym, ap, subst, arith, refl}
 use Rattle.std.proofs.lemmas.Result.{IfErr-weaker}
-use Rattle.logging_session.specs.Keeping.{Carried, IsFailed, IsWorking}
+use Rattle.arrayvec.specs.ArrayVec.{ArrayVec, array_vec_len}
+use Rattle.logging_session.specs.Keeping.{Carried, IsFailed, IsWorking, held_in, lost_in}
 use Rattle.run_script.specs.declared.script.Line.{Line}
 use Rattle.run_script.specs.declared.script.Script.{Script}
 use Rattle.run_passes.specs.Crews.{Follows}
@@ -14,7 +15,8 @@ use Rattle.run_archive.specs.declared.sampler.Sampler.{Sampler}
 use Rattle.run_archive.specs.Endings.{MayEnd}
 use Rattle.record_run.specs.declared.run.Run.{Run}
 use Rattle.record_run.specs.States.{GoesTo, HaltsAt}
-use Rattle.record_run.proofs.Matches.{err_of, every_err, every_ok, ok_of}
+use Rattle.record_run.proofs.Leading.{working_unlost}
+use Rattle.record_run.proofs.Matches.{err_of, every_err, every_ok, ok_of, on_err}
 use Rattle.record_run.proofs.PassLines.{IsOfPass, of_pass, pass_ends, pass_goes, pass_halts, working_unfailed}
 use Rattle.record_run.proofs.steps.step.Goals as goal
 
@@ -32,6 +34,8 @@ returns-in_default g c =
     let number = c.args.number in
     let same : is.sampler ≡ was.sampler = c.pass.ensures.sampler in
     let session : is.sampler.session ≡ was.sampler.session = ap (λ (sampler : Sampler). sampler.session) same in
+    let held : held_in is.sampler.session.place ≡ held_in was.sampler.session.place = ap (λ (s : Carried). held_in s.place) session in
+    let long : array_vec_len is.marks ≡ array_vec_len was.marks = ap (λ (v : ArrayVec ℕ). array_vec_len v) c.pass.ensures.marks in
     let of : IsOfPass line = of_pass line c.in_default.not-Tick c.in_default.not-Flush in
     let now = λ (regions : List ScriptRegion). Follows script server is.running after regions in
     let runs = λ (regions : List ScriptRegion). HasRun now regions was.out.items is.out.items (pass_step script regions line) true in
@@ -42,10 +46,14 @@ returns-in_default g c =
       same = (ap (λ (s : Carried). s.label) session, ap (λ (s : Carried). s.limit) session);
       count = let logged = ap (λ (s : Carried). s.logged) session in omega (arith, logged);
       working = every_ok c.pass.result (IsWorking is.sampler.session) (subst IsWorking (sym session) c.requires.working);
+      marked = every_ok c.pass.result ((held_in is.sampler.session.place ≤ array_vec_len is.marks) × (array_vec_len is.marks ≤ 64)) (let many = c.requires.marked in let room = c.requires.room in (omega (arith, held, long, many), omega (arith, long, room)));
+      unmarked = on_err c.pass.result (is.marks ≡ was.marks) c.pass.ensures.marks;
+      unheld = on_err c.pass.result (held_in is.sampler.session.place ≤ array_vec_len is.marks) (let many = c.requires.marked in omega (arith, held, long, many));
+      lost = on_err c.pass.result (lost_in is.sampler.session.place ≤ array_vec_len is.marks) (let none : lost_in is.sampler.session.place ≡ 0 = working_unlost is.sampler.session (subst IsWorking (sym session) c.requires.working) in omega (arith, none));
       unfailed = every_err c.pass.result (λ (e : Ending). e ≢ ends.DiskFault → IsFailed is.sampler.session → ⊥) (λ e other. subst (λ (s : Carried). IsFailed s → ⊥) (sym session) (working_unfailed was.sampler.session c.requires.working));
       goes = λ alone s stands.
           ok_of c.pass.result (λ x. runs s.regions) (λ e. stops s.regions e) (GoesTo d script server s was is after disk disk line) (c.pass.ensures.runs alone s.regions stands.follow.follows)
-          (λ x run. pass_goes d script server s was is before after disk line stands same of run);
+          (λ x run. pass_goes d script server s was is before after disk line stands same c.pass.ensures.marks of run);
       halts = λ alone s stands.
           err_of c.pass.result (λ x. runs s.regions) (λ e. stops s.regions e) (λ (e : Ending). HaltsAt d script server s was is after disk disk number line e) (c.pass.ensures.runs alone s.regions stands.follow.follows)
           (λ e stopped. pass_halts d script server s was is before after disk line stands same number e stopped);
