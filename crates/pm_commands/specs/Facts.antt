@@ -252,7 +252,9 @@ module _ {I O D : Type 0} (c : Sides I O D) where
     pub since : c.disks.tells → HadRecovered status → WentOn
     -- The regions that are left are those on which the script's lines were run, and nothing else, as the seat has seen, which has gathered
     -- every pass: no entry can stand behind that. They are the lines of the run that the status tells of: after 0 it came to its end, and
-    -- its lines and results are what is told; where it ended before, what is written is exactly its lines so far and then why. Where the disk tells, its files are those of the same run, event by event, after each status.
+    -- its lines and results are what is told; where it ended before, what is written is exactly its lines up to there and then why: where the
+    -- disk failed, those before the first result that was lost, and further ones may have been run on the regions. Where the disk tells, its
+    -- files are those of the same run, event by event, after each status.
     -- The regions are there wherever the run began, but for want of memory.
     pub ran : LeavesRegions status
     pub regions : OpensRegions c.words source_of c.opened status

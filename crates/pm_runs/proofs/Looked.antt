@@ -19,7 +19,7 @@ use Rattle.run_script.specs.declared.script.Script.{Script}
 use Rattle.script_runs.specs.declared.ending.Ending.{Ending}
 use Rattle.script_runs.specs.declared.ending.Ending.TheVariants as ends
 use Rattle.script_runs.specs.Archives.{run_label}
-use Rattle.script_runs.specs.Runs.{Does}
+use Rattle.script_runs.specs.Runs.{RunDoes}
 use Rattle.run_archive.specs.declared.replayed.Replayed.{Replayed}
 use Rattle.run_archive.specs.Crashes.{IsAllAfter}
 use Rattle.run_archive.specs.Endings.{MayEnd}
@@ -83,7 +83,7 @@ done_not_disk : (e : Ending) → e ≡ ends.Done → e ≢ ends.DiskFault
 done_not_disk e same failed = let both : ends.Done ≡ ends.DiskFault = sym same ∙ failed in cc
 
 module _ {D : Type 0} {g : DiskGhosts D} {script : Script} {limit : ℕ} {old mid new : D} {opened : Option Opened} {r : Replayed} (done : r.ending ≡ ends.Done) (looks : Looks g mid new) (run : WasRun g script limit old mid opened r) where
-  abbrev files : g.tells → ReplaysFiles g script limit old mid run.is.run.ran.count run.is.run.ran.last r.ending
+  abbrev files : g.tells → ReplaysFiles g limit old mid run.is.run.ran
   files t = run.is.told t
 
   module _ (t : g.tells) where
@@ -123,8 +123,8 @@ module _ {D : Type 0} {g : DiskGhosts D} {script : Script} {limit : ℕ} {old mi
           (all_to (contents_of (g.held old)) (left_of g limit events more old mid w) w.reading w.was w.recovered (items_by events) (acknowledged_by front) image (omega (arith, few, long)) (flushed.survive image left))
 
       still_went : WentBy g run_label limit (left_of g limit events more old mid w) (ended r.ending events) more w.middle new
-      still_went front rest is =
-          let p : HasPassed g run_label limit (left_of g limit events more old mid w) front (items_by (ended r.ending events) ++ more) w.middle mid = w.went front rest is in
+      still_went front rest is unlogged =
+          let p : HasPassed g run_label limit (left_of g limit events more old mid w) front (items_by (ended r.ending events) ++ more) w.middle mid = w.went front rest is unlogged in
           let Back = ComesBackTo (items_by (ended r.ending events) ++ more) (acknowledged_by front) (left_of g limit events more old mid w) in
           record {
             at = p.at;
@@ -146,8 +146,8 @@ module _ {D : Type 0} {g : DiskGhosts D} {script : Script} {limit : ℕ} {old mi
         flushed = λ other. still_flushed;
       }
 
-      still_runs : Does script limit (left_of g limit events more old mid w) run.is.run.ran.count run.is.run.ran.last r.ending events more
-          → RunsOnFiles g limit events more old new r.ending (run.is.run.ran.count ≡ 0) (λ left. Does script limit left run.is.run.ran.count run.is.run.ran.last r.ending events more)
+      still_runs : RunDoes limit (left_of g limit events more old mid w) run.is.run.ran events more
+          → RunsOnFiles g limit events more old new r.ending (run.is.run.ran.further.lines ≡ 0) (λ left. RunDoes limit left run.is.run.ran events more)
       still_runs does = record {
         any_moment = joined g.moment g.left_since g.held old mid new (MayBeAfter (items_by events ++ more) 0 (g.held old)) (files t).on.any_moment
             (weaker g.moment g.left_since g.held mid new (CrashImage (g.held mid)) (MayBeAfter (items_by events ++ more) 0 (g.held old)) (looks.moments t)
@@ -155,10 +155,10 @@ module _ {D : Type 0} {g : DiskGhosts D} {script : Script} {limit : ℕ} {old mi
         begun = inr (still_on, does);
       }
 
-    went_on : (w : WentOn g limit events more old mid r.ending) × Does script limit (left_of g limit events more old mid w) run.is.run.ran.count run.is.run.ran.last r.ending events more
+    went_on : (w : WentOn g limit events more old mid r.ending) × RunDoes limit (left_of g limit events more old mid w) run.is.run.ran events more
     went_on = ⊎_elim (λ n. absurd (done_began g old mid r.ending done n.0)) (λ w. w) (files t).on.begun
 
-    looked_files : ReplaysFiles g script limit old new run.is.run.ran.count run.is.run.ran.last r.ending
+    looked_files : ReplaysFiles g limit old new run.is.run.ran
     looked_files = record { events = events; more = more; on = still_runs went_on.0 went_on.1 }
 
   pub looked_was : WasRun g script limit old new opened r

@@ -1,5 +1,5 @@
 -- A script runs to one end of its own: each line goes on in one way, or ends the run for one reason.
-use Rattle.std.proofs.Common.{◌≡◌, ◌⊎◌, inl, inr, ⊎_elim, ℕ, ◌<◌, ◌≤◌, Bool, List, [], ◌∷◌, ◌++◌, append_assoc, length, take, slice_get, Option, Some, refl, sym, ap, ◌∙◌, subst, arith}
+use Rattle.std.proofs.Common.{◌≡◌, ◌≢◌, ◌⊎◌, inl, inr, ⊎_elim, ℕ, ◌<◌, ◌≤◌, Bool, List, [], ◌∷◌, ◌++◌, append_assoc, length, take, slice_get, Option, Some, refl, sym, ap, ◌∙◌, subst, arith}
 use Rattle.std.specs.Prelude.{if◌then◌else◌}
 use Rattle.std.proofs.lemmas.Bool.{cases_lt}
 use Rattle.std.proofs.lemmas.Option.{same_Some, slice_get_within}
@@ -17,7 +17,7 @@ use Rattle.script_runs.specs.declared.ending.LimitKind.TheVariants as kinds
 use Rattle.script_runs.specs.Archives.{IsTurnedAway, report_of, run_label}
 use Rattle.script_runs.specs.Closing.{closed_regions}
 use Rattle.script_runs.specs.Regions.{ScriptRegion}
-use Rattle.script_runs.specs.Runs.{AsksTooMany, Does, Goes, Halts, RanTo, RunsTo, Shows, TurnsAway, are_idle, line_behind, run_start, shown, with_end}
+use Rattle.script_runs.specs.Runs.{AsksTooMany, Does, Goes, Halts, RanTo, RunDoes, RunsTo, Shows, TurnsAway, are_idle, line_behind, run_start, shown, with_end}
 use Rattle.script_runs.specs.Steps.{Fails, GoesOn, RunState, fetched_at, pmids_at}
 use Rattle.pm_runs.specs.Scripts.{IsOne, IsOwn}
 use Rattle.pm_runs.proofs.OneArchive.{away_ends, one_away, one_led}
@@ -56,31 +56,31 @@ module _ (script : Script) (limit : ℕ) (left : Files) where
   abbrev Why : ℕ → RunState → Ending → List Event → Type 0
   Why count s ending events = AtEnd count s ending events ⊎ AtLine count s ending events
 
-  why : (ending : Ending) → IsOwn ending → (count : ℕ) (s : RunState) (events : List Event) → Halts script count s ending → Does script limit left count s ending events [] → Why count s ending events
-  why ends.Done own count s events h d = inl (record {
+  why : (ending : Ending) → IsOwn ending → (count : ℕ) (s : RunState) (lines : ℕ) (t : RunState) (events : List Event) → Halts script count s ending → Does script limit left count s lines t ending events [] → Why count s ending events
+  why ends.Done own count s lines t events h d = inl (record {
     all = h.all;
     ending_is = sym (ap (λ (b : Bool). if b then ends.Done else ends.Condition (line_behind script.steps)) h.idle_is);
     nothing = d.0;
   })
-  why (ends.Condition at) own count s events (inl (number, line, is, fails)) d = inr (record { number = number; line = line; is = is; by = inl (fails.1, ap (λ (n : ℕ). ends.Condition n) fails.0, d.0) })
-  why (ends.Condition at) own count s events (inr (h, behind)) d = inl (record {
+  why (ends.Condition at) own count s lines t events (inl (number, line, is, fails)) d = inr (record { number = number; line = line; is = is; by = inl (fails.1, ap (λ (n : ℕ). ends.Condition n) fails.0, d.0) })
+  why (ends.Condition at) own count s lines t events (inr (h, behind)) d = inl (record {
     all = h.all;
     ending_is = ap (λ (n : ℕ). ends.Condition n) behind ∙ sym (ap (λ (b : Bool). if b then ends.Done else ends.Condition (line_behind script.steps)) h.idle_is);
     nothing = d.0;
   })
-  why (ends.Limit kinds.Sets many) own count s events (number, line, is, asks) (at, other, there, nothing) = inr (record { number = number; line = line; is = is; by = inr (inl (many, asks, refl, nothing.0)) })
-  why (ends.Limit kinds.Record bytes) own count s events h (number, line, is, away) = inr (record { number = number; line = line; is = is; by = inr (inr away) })
-  why (ends.Limit kinds.Meta bytes) own count s events h (number, line, is, away) = inr (record { number = number; line = line; is = is; by = inr (inr away) })
-  why (ends.Limit kinds.Index bytes) own count s events h (number, line, is, away) = inr (record { number = number; line = line; is = is; by = inr (inr away) })
-  why (ends.Limit kinds.Volume bytes) own count s events h (number, line, is, away) = inr (record { number = number; line = line; is = is; by = inr (inr away) })
-  why (ends.NotLater last) own count s events h (number, line, is, away) = inr (record { number = number; line = line; is = is; by = inr (inr away) })
-  why (ends.Changed pmid) own count s events h (number, line, is, away) = inr (record { number = number; line = line; is = is; by = inr (inr away) })
-  why ends.DiskFault own count s events h d = absurd own
-  why ends.NoMemory own count s events h d = absurd own
-  why (ends.NotArchive file at) own count s events h d = absurd own
-  why (ends.Compressed file) own count s events h d = absurd own
-  why (ends.ClockEnd samples) own count s events h d = absurd own
-  why (ends.ClockFault samples) own count s events h d = absurd own
+  why (ends.Limit kinds.Sets many) own count s lines t events (number, line, is, asks) (at, other, there, nothing) = inr (record { number = number; line = line; is = is; by = inr (inl (many, asks, refl, nothing.0)) })
+  why (ends.Limit kinds.Record bytes) own count s lines t events h (number, line, is, away) = inr (record { number = number; line = line; is = is; by = inr (inr away) })
+  why (ends.Limit kinds.Meta bytes) own count s lines t events h (number, line, is, away) = inr (record { number = number; line = line; is = is; by = inr (inr away) })
+  why (ends.Limit kinds.Index bytes) own count s lines t events h (number, line, is, away) = inr (record { number = number; line = line; is = is; by = inr (inr away) })
+  why (ends.Limit kinds.Volume bytes) own count s lines t events h (number, line, is, away) = inr (record { number = number; line = line; is = is; by = inr (inr away) })
+  why (ends.NotLater last) own count s lines t events h (number, line, is, away) = inr (record { number = number; line = line; is = is; by = inr (inr away) })
+  why (ends.Changed pmid) own count s lines t events h (number, line, is, away) = inr (record { number = number; line = line; is = is; by = inr (inr away) })
+  why ends.DiskFault own count s lines t events h d = absurd own
+  why ends.NoMemory own count s lines t events h d = absurd own
+  why (ends.NotArchive file at) own count s lines t events h d = absurd own
+  why (ends.Compressed file) own count s lines t events h d = absurd own
+  why (ends.ClockEnd samples) own count s lines t events h d = absurd own
+  why (ends.ClockFault samples) own count s lines t events h d = absurd own
 
   -- its events are those of its lines, and perhaps one more
   by_grows : (number : ℕ) (line : Line) (s : RunState) (ending : Ending) (events : List Event) → EndsBy number line s ending events → Grows s.events events
@@ -159,13 +159,20 @@ module _ (script : Script) (limit : ℕ) (left : Files) where
 
 -- ---- whole runs
 
+own_not_disk : (ending : Ending) → IsOwn ending → ending ≢ ends.DiskFault
+own_not_disk ending own failed = subst IsOwn failed own
+
+-- unless the disk failed the regions are closed behind the lines at which it ended
+closed_at : {script : Script} (ending : Ending) → IsOwn ending → (output : List ℕ) (regions : List ScriptRegion) (x : RanTo script ending output regions) → regions ≡ closed_regions x.last.regions
+closed_at ending own output regions x = x.closed ∙ ap (λ (t : RunState). closed_regions t.regions) (x.further.same (own_not_disk ending own)).1
+
 module _ (script : Script) (limit : ℕ) (left : Files) (a b : Ending) (own : IsOwn a) (also : IsOwn b) (o p : List ℕ) (d e : List Event) (r s : List ScriptRegion) (f g : Files) (x : RanTo script a o r) (y : RanTo script b p s)
-    (does : Does script limit left x.count x.last a d []) (other : Does script limit left y.count y.last b e []) (led : LeadsTo run_label limit left (closing d) f) (again : LeadsTo run_label limit left (closing e) g) where
+    (does : RunDoes limit left x d []) (other : RunDoes limit left y e []) (led : LeadsTo run_label limit left (closing d) f) (again : LeadsTo run_label limit left (closing e) g) where
   why_x : Why script limit left x.count x.last a d
-  why_x = why script limit left a own x.count x.last d x.halts does
+  why_x = why script limit left a own x.count x.last x.further.lines x.further.state d x.halts does
 
   why_y : Why script limit left y.count y.last b e
-  why_y = why script limit left b also y.count y.last e y.halts other
+  why_y = why script limit left b also y.count y.last y.further.lines y.further.state e y.halts other
 
   not_before : x.count < y.count → ⊥
   not_before low = not_past script limit left x.count y.count x.last y.last a b d e g low y.ran.within x.ran.goes y.ran.goes why_x why_y again
@@ -189,7 +196,7 @@ module _ (script : Script) (limit : ℕ) (left : Files) (a b : Ending) (own : Is
     ending = same_why.0;
     output = x.output_is ∙ ap (λ (c : Ending). with_end c x.last) same_why.0 ∙ ap (λ (t : RunState). with_end b t) (sym same_last) ∙ sym y.output_is;
     events = same_why.1;
-    regions = x.closed ∙ ap (λ (t : RunState). closed_regions t.regions) (sym same_last) ∙ sym y.closed;
+    regions = closed_at a own o r x ∙ ap (λ (t : RunState). closed_regions t.regions) (sym same_last) ∙ sym (closed_at b also p s y);
     files = one_led run_label limit left (closing d) f g led (subst (λ (l : List Event). LeadsTo run_label limit left (closing l) g) (sym same_why.1) again);
   }
 
@@ -197,7 +204,7 @@ pub one_run : (script : Script) (limit : ℕ) (start : Files) (a b : Ending) →
     → IsOne a b o p d e r s f g
 one_run script limit start a b own also o p d e r s f g x y =
     let same : y.left ≡ x.left = recovered_once start x.left y.left x.recovered.reading y.recovered.reading x.recovered.was y.recovered.was x.recovered.recovered y.recovered.recovered in
-    one_over script limit x.left a b own also o p d e r s f g x.ran y.ran x.does (subst (λ (left : Files). Does script limit left y.ran.count y.ran.last b e []) same y.does) x.files
+    one_over script limit x.left a b own also o p d e r s f g x.ran y.ran x.does (subst (λ (left : Files). RunDoes limit left y.ran e []) same y.does) x.files
     (subst (λ (left : Files). LeadsTo run_label limit left (closing e) g) same y.files)
 
 pub one_ending : (script : Script) (limit : ℕ) (start : Files) (a b : Ending) → IsOwn a → IsOwn b → (o p : List ℕ) (d e : List Event) (r s : List ScriptRegion) (f g : Files) → RunsTo script limit start a o d r f → RunsTo script limit start b p e s g

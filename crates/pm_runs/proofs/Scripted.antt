@@ -1,6 +1,6 @@
 -- What a command does that runs a script, path by path: its input is refused, or memory before the run; the run is done, and told or not; or
 -- it is refused.
-use Rattle.std.proofs.Common.{◌≡◌, ◌≢◌, ◌⊎◌, inl, inr, ⊎_elim, ℕ, true, false, List, [], ◌++◌, length, take, Option, Some, None, Result, Ok, Err, IfOk, IfErr, OnOk, refl, sym, ap, ◌∙◌, subst}
+use Rattle.std.proofs.Common.{◌≡◌, ◌≢◌, ◌⊎◌, inl, inr, ⊎_elim, ℕ, true, false, List, [], ◌++◌, arith, length, take, Option, Some, None, Result, Ok, Err, IfOk, IfErr, OnOk, refl, sym, ap, ◌∙◌, subst}
 use Rattle.std.proofs.lemmas.Option.{none-some}
 use Rattle.pcp_base.specs.declared.file.FileId.{FileId}
 use Rattle.pcp_base.specs.declared.result.Item.{Item}
@@ -15,7 +15,7 @@ use Rattle.logging_session.specs.Events.{Event, items_by}
 use Rattle.run_script.specs.declared.script.Script.{Script}
 use Rattle.script_runs.specs.declared.ending.Ending.{Ending}
 use Rattle.script_runs.specs.declared.ending.Ending.TheVariants as ends
-use Rattle.script_runs.specs.Runs.{Does, Goes, RanTo, RunsTo, run_start, with_end}
+use Rattle.script_runs.specs.Runs.{Does, Goes, RanTo, RunDoes, RunsTo, run_start, with_end}
 use Rattle.script_runs.specs.Steps.{RunState}
 use Rattle.run_passes.specs.declared.opening.Opened.{Opened}
 use Rattle.run_archive.specs.declared.replayed.Replayed.{Replayed}
@@ -115,12 +115,12 @@ module _ (c : Runner) (input : List ℕ) {script : Script} (is : c.script input 
     abbrev ran : RanTo script r.ending r.output run.is.run.regions
     ran = run.is.run.ran
 
-    abbrev files : g.tells → ReplaysFiles g script c.limit old new ran.count ran.last r.ending
+    abbrev files : g.tells → ReplaysFiles g c.limit old new ran
     files t = run.is.told t
 
     -- what it did where recovery answered
     abbrev Went : g.tells → Type 0
-    Went t = (w : WentOn g c.limit (files t).events (files t).more old new r.ending) × Does script c.limit (left_of g c.limit (files t).events (files t).more old new w) ran.count ran.last r.ending (files t).events (files t).more
+    Went t = (w : WentOn g c.limit (files t).events (files t).more old new r.ending) × RunDoes c.limit (left_of g c.limit (files t).events (files t).more old new w) ran (files t).events (files t).more
 
     -- a run of its own ending went on
     went : IsOwn r.ending → (t : g.tells) → Went t
@@ -130,8 +130,8 @@ module _ (c : Runner) (input : List ℕ) {script : Script} (is : c.script input 
     wrote_as : (e : Ending) → r.ending ≡ e → r.output ≡ with_end e ran.last
     wrote_as e same = ran.output_is ∙ ap (λ (x : Ending). with_end x ran.last) same
 
-    none_yet : ran.count ≡ 0 → ran.last.output ≡ []
-    none_yet none = state_none script ran.count ran.last none ran.ran.goes
+    none_yet : ran.further.lines ≡ 0 → ran.last.output ≡ []
+    none_yet none = state_none script ran.count ran.last (omega (arith, none, ran.further.on)) ran.ran.goes
 
     -- it went so
     so : (t : g.tells) → Went t → RunsSo script c.limit (contents_of d.held) r.ending r.output (files t).events (files t).more run.is.run.regions
@@ -144,7 +144,7 @@ module _ (c : Runner) (input : List ℕ) {script : Script} (is : c.script input 
           left = left_of g c.limit (files t).events (files t).more old new w;
           recovered = record { reading = w.reading; was = w.was; recovered = w.recovered };
           ran = ran;
-          does = subst (λ (items : List Item). Does script c.limit (left_of g c.limit (files t).events (files t).more old new w) ran.count ran.last r.ending (files t).events items) flushed.none does;
+          does = subst (λ (items : List Item). RunDoes c.limit (left_of g c.limit (files t).events (files t).more old new w) ran (files t).events items) flushed.none does;
           files = flushed.files;
         }
 
@@ -170,7 +170,7 @@ module _ (c : Runner) (input : List ℕ) {script : Script} (is : c.script input 
     count_of : r.ending ≡ ends.Done → (t : g.tells) → r.logged ≡ length (items_by (files t).events)
     count_of same t =
         let w = went (own_as ends.Done same tt) t in
-        let nothing = subst (λ (e : Ending). Does script c.limit (left_of g c.limit (files t).events (files t).more old new w.0) ran.count ran.last e (files t).events (files t).more) same w.1 in
+        let nothing = subst (λ (e : Ending). Does script c.limit (left_of g c.limit (files t).events (files t).more old new w.0) ran.count ran.last ran.further.lines ran.further.state e (files t).events (files t).more) same w.1 in
         run.is.run.counted ∙ ap (λ (events : List Event). length (items_by events)) (sym nothing.0)
 
     has_served : (text : List ℕ) → r.ending ≡ ends.Done → g.faults new ≡ g.faults old → (g.tells → c.says script r.logged r.output (contents_of d.after) text) → HasServed m input d text
@@ -228,14 +228,14 @@ module _ (c : Runner) (input : List ℕ) {script : Script} (is : c.script input 
     -- how it began, where it ended so
     abbrev Begun : Ending → g.tells → Type 0
     Begun e t =
-        (IsUnrecovered g old new e × ((files t).events ≡ []) × ((files t).more ≡ []) × (ran.count ≡ 0))
-        ⊎ ((w : WentOn g c.limit (files t).events (files t).more old new e) × Does script c.limit (left_of g c.limit (files t).events (files t).more old new w) ran.count ran.last e (files t).events (files t).more)
+        (IsUnrecovered g old new e × ((files t).events ≡ []) × ((files t).more ≡ []) × (ran.further.lines ≡ 0))
+        ⊎ ((w : WentOn g c.limit (files t).events (files t).more old new e) × Does script c.limit (left_of g c.limit (files t).events (files t).more old new w) ran.count ran.last ran.further.lines ran.further.state e (files t).events (files t).more)
 
     begun_so : (e : Ending) → r.ending ≡ e → (t : g.tells) → Begun e t
     begun_so e same t = subst (λ (x : Ending). Begun x t) same (files t).on.begun
 
     abbrev Before : Ending → Type 0
-    Before e = IsUnrecovered g old new e × (ran.count ≡ 0)
+    Before e = IsUnrecovered g old new e × (ran.further.lines ≡ 0)
 
     -- files that are turned away aren't gone on with
     wrapped_before : (file : FileId) → r.ending ≡ ends.Compressed file → g.tells → Before (ends.Compressed file)

@@ -15,13 +15,14 @@ use Rattle.pm_words.specs.Sides.{DiskSide, disk_side}
 use Rattle.pm_runs.specs.Runners.{Runner, OfScript}
 
 -- What a command writes and answers whose run was this. Done: the run came to its end, and its results and lines are what is told. Refused: so
--- the run ended, and what was written before are its lines so far; or it came to its end, and what is to be written of it isn't told.
+-- the run ended, and what was written before are its lines up to there; or it came to its end, and what is to be written of it isn't told.
 abbrev pub AnswersRun : Runner → Script → DiskSide → Replayed → List ℕ → Result (List ℕ) Refusal → Type 0
 AnswersRun c script d run front (Ok text) = (run.ending ≡ ends.Done) × (d.tells → c.says script run.logged run.output (contents_of d.after) (front ++ text))
 AnswersRun c script d run front (Err e) = ((ending_refusal run.ending ≡ Some e) × (front ≡ c.front run.output)) ⊎ ((run.ending ≡ ends.Done) × c.untold e × (front ≡ []))
 
 -- The regions are those of the script, read by one seat, and no list of passes is left. Its lines were run on them and nothing else, as
--- the fold says, until all was closed, and the seat has gathered every pass. Over a disk that tells, its files are those of the same run,
+-- the fold says, until all was closed, and the seat has gathered every pass. Where the disk failed these may be more lines than those that
+-- were written. Over a disk that tells, its files are those of the same run,
 -- of which this is the answer.
 pub record RanOn {D : Type 0} (g : DiskGhosts D) (c : Runner) (script : Script) (old new : D) (o : Opened) (front : List ℕ) (answer : Result (List ℕ) Refusal) : Type 0 where
   pub run : Replayed

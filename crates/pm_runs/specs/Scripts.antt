@@ -87,7 +87,8 @@ WantsWith script limit d output = (ending : Ending) × EndsWith script limit d e
 abbrev pub RefusedWith : Script → ℕ → DiskSide → Refusal → List ℕ → Type 0
 RefusedWith script limit d e output = (ending : Ending) × EndsBy ending e × EndsWith script limit d ending output
 
--- Where the disk failed, nothing was written, or exactly the lines of the run so far.
+-- Where the disk failed, nothing was written, or exactly the lines of the run up to where that ended it: those before the tick of the first
+-- result that was lost.
 abbrev pub StoppedAt : Script → ℕ → DiskSide → Refusal → List ℕ → Type 0
 StoppedAt script limit d (Compressed file) output = output ≡ []
 StoppedAt script limit d (NotArchive file at) output = output ≡ []
