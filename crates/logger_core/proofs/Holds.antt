@@ -1,6 +1,6 @@
 -- A logger that holds results: one more of them, and all of them written.
 use Rattle.std.proofs.Common.{◌≡◌, ℕ, ◌+◌, ◌<◌, ◌≤◌, Bool, true, false, List, [], ◌∷◌, ◌++◌, length, refl, sym, ap, ◌∙◌, subst, append_assoc, arith, length-append}
-use Rattle.std.specs.Prelude.{if◌then◌else◌, Result, Ok, Err, OnErr, OnOk}
+use Rattle.std.specs.Prelude.{if◌then◌else◌, Result, Ok, Err, OnErr, OnOk, IfErr}
 use Rattle.std.proofs.Math.Path.{fun_ext}
 use Rattle.std.proofs.lemmas.List.{append-nil}
 use Rattle.pcp_base.specs.Time.{Moment}
@@ -14,13 +14,15 @@ use Rattle.pcp_model.proofs.Lists.{each-append}
 use Rattle.archive_meta.specs.declared.facts.Facts.{Facts}
 use Rattle.archive_meta.specs.Enough.{AreEnough}
 use Rattle.logger_core.specs.declared.ends.Ends.{Ends}
+use Rattle.logger_core.specs.declared.fault.LogFault.{LogFault}
+use Rattle.logger_core.specs.declared.fault.LogFault.TheVariants.{DiskFault}
 use Rattle.logger_core.specs.declared.groups.Group.{Group}
 use Rattle.logger_core.specs.declared.groups.Run.{Run}
 use Rattle.logger_core.specs.declared.preparing.Made.{Made}
 use Rattle.logger_core.specs.Going.{AreSmall, IsReachable}
-use Rattle.logger_core.specs.Grouping.{Told, LogsOne, AreLoggable, samples_of}
+use Rattle.logger_core.specs.Grouping.{Told, LogsOne, AreLoggable, AreWritten, BeginsRun, samples_of}
 use Rattle.logger_core.specs.Held.{AreRuns, AreRunsBounded, IsRunBounded, IsRunOf, RunWritten, after_run, after_runs, counts_of, joined_run, ready_files, run_files, run_of, runs_acknowledged, runs_files, with_made}
-use Rattle.logger_core.specs.Holding.{HeldBack, HoldsMore, HoldingNothingIsALogger, IsBatch, IsHeldBy, IsHolding, LoggerHoldsNothing, all_sure, ending_at}
+use Rattle.logger_core.specs.Holding.{HeldBack, HoldsMore, HoldingNothingIsALogger, IsBatch, IsHeldBy, IsHolding, IsStopped, LoggerHoldsNothing, all_sure, ending_at}
 use Rattle.logger_core.specs.Keeps.{Start}
 use Rattle.logger_core.specs.Logging.{IsLoggable, IsMadeOf}
 use Rattle.logger_core.specs.Meant.{Meant, Kept, AreEnds, IsAt, Stands, items_in}
@@ -297,3 +299,8 @@ all_there (Ok v) b now after m pending o held new h planned is w =
     subst (λ (g : Group). IsHolding o (record { kept = now; runs = g.runs; planned = g.planned }) [] o new) (sym is.2)
     (subst (λ (k : Kept). IsHolding o (record { kept = k; runs = []; planned = b.planned }) [] o new) (sym there) (holds_none m b pending o held new h now.ends (ap (λ (k : Kept). k.ends) there) w))
 all_there (Err e) b now after m pending o held new h planned is w = tt
+
+pub is_stopped : (r : Result (Unit {0}) (ℕ × LogFault)) (b : HeldBack) (m : Meant) (pending : List Told) (new : Holdings) → IfErr r (λ e. e.1 ≡ DiskFault → AreWritten m b.kept.ends.volume b.kept.limit pending e.0 new)
+    → IfErr r (λ e. e.1 ≡ DiskFault → BeginsRun m.contents.records b.kept.ends b.kept.limit pending e.0) → IfErr r (λ e. e.1 ≡ DiskFault → IsStopped m b pending new e.0)
+is_stopped (Ok v) b m pending new written begins = tt
+is_stopped (Err e) b m pending new written begins = λ fault. record { written = written fault; begins = begins fault }

@@ -20,6 +20,7 @@ pub mod Nearer
 pub mod NewArchive
 pub mod NoItems
 pub mod Opened
+pub mod Passed
 pub mod Planned
 pub mod Pointwise
 pub mod RecordsPut

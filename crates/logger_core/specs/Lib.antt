@@ -8,6 +8,7 @@ pub mod LogSteps
 pub mod Laws
 pub mod Logging
 pub mod Meant
+pub mod Passing
 pub mod Planning
 pub mod Preparing
 pub mod Recovering

@@ -12,6 +12,7 @@ ghost use Rattle.logger_core.specs.Held.{counts_of};
 ghost use Rattle.logger_core.specs.Holding.{HasRoomBeside, HoldMayAnswer, HoldsMore, IsHolding, IsStopped, WriteMayAnswer, written_back};
 ghost use Rattle.logger_core.specs.Logging.{IsLoggable};
 ghost use Rattle.logger_core.specs.Meant.{Meant, IsLogger, SurvivesOf};
+ghost use Rattle.logger_core.specs.Passing.{HasPassedRuns};
 ghost use Rattle.logger_core.specs.Refusals.{FlushMayAnswer};
 ghost use Rattle.logger_core.specs.Runs.{SurvivesWith};
 
@@ -122,6 +123,8 @@ impl Batch {
         ensures any_moment { D.tells → (m : Meant) (pending : Sequence Told) (o : Meant) → IsHolding m self.old pending o (D.held disk.old) → LeavesOnly D.moment D.left_since disk.old disk.new (SurvivesWith m (samples_of pending)) }
         // Where the disk failed the results before a run are written, and no more than that run behind them.
         ensures failed { D.tells → (m : Meant) (pending : Sequence Told) (o : Meant) → IsHolding m self.old pending o (D.held disk.old) → IfErr result (λ e. e.1 ≡ DiskFault → IsStopped m self.old pending (D.held disk.new) e.0) }
+        // Before that run the disk held exactly what the results before it lead to.
+        ensures passed { D.tells → (m : Meant) (pending : Sequence Told) (o : Meant) → IsHolding m self.old pending o (D.held disk.old) → IfErr result (λ e. e.1 ≡ DiskFault → HasPassedRuns D.Disk m self.old pending e.0 disk.old disk.new) }
         // Closed comes exactly after a fault of the disk, and then nothing is touched.
         ensures closed { self.old.kept.closed ≡ true → (result ≡ Err (0, Closed)) × (self.new ≡ self.old) × (disk.new ≡ disk.old) }
         // Where nothing is held nothing is done.

@@ -18,6 +18,7 @@ ghost use Rattle.logger_core.specs.Writing.{IsBounded};
 ghost use Rattle.logger_core.specs.Created.{HasNoItem, IsCreated, first_ends};
 ghost use Rattle.logger_core.specs.Going.{AreSmall, IsFlushed, IsReachable, IsVolumeSure, all_acknowledged, counting_all};
 ghost use Rattle.logger_core.specs.Meant.{Meant, IsAt, IsLogger, SurvivesOf};
+ghost use Rattle.logger_core.specs.Passing.{HasPassedFirst};
 ghost use Rattle.logger_core.specs.Refusals.{FlushMayAnswer, CreateMayAnswer};
 ghost use Rattle.logger_core.specs.Reopening.{IsLeft, IsReopened, SameFiles, ends_of};
 
@@ -389,6 +390,8 @@ impl Logger {
             → LeavesOnly D.moment D.left_since disk.old disk.new (SurvivesWith m (samples_of pending)) }
         ensures written { D.tells → (m : Meant) (limit : ℕ) (pending : Sequence Told) (now : Sequence Record) (after : Numbers) → IsAt m self.old.ends (D.held disk.old) → m.contents.label ≡ self.old.label → AreRuns m.contents.records self.old.ends limit group.old.runs pending now after → AreAllEnough pending
             → IfErr result (λ e. e.1 ≡ DiskFault → AreWritten m self.old.ends.volume limit pending e.0 (D.held disk.new)) }
+        ensures passed { D.tells → (m : Meant) (limit : ℕ) (pending : Sequence Told) (now : Sequence Record) (after : Numbers) → IsAt m self.old.ends (D.held disk.old) → m.contents.label ≡ self.old.label → AreRuns m.contents.records self.old.ends limit group.old.runs pending now after → AreAllEnough pending
+            → IfErr result (λ e. e.1 ≡ DiskFault → HasPassedFirst D.Disk m self.old.ends.volume limit pending e.0 disk.old disk.new) }
         ensures begins { (records : Sequence Record) (limit : ℕ) (pending : Sequence Told) (now : Sequence Record) (after : Numbers) → AreRuns records self.old.ends limit group.old.runs pending now after → IfErr result (λ e. e.1 ≡ DiskFault → BeginsRun records self.old.ends limit pending e.0) }
         ensures emptied { OnOk result ((self.old.closed ≡ false) × (self.new ≡ ending_at (after_runs self.old.ends group.old.runs) self.old) × (group.new ≡ record { runs = []; planned = group.old.planned })) }
         ensures closed { self.old.closed ≡ true → (result ≡ Err (0, Closed)) × (self.new ≡ self.old) × (group.new ≡ group.old) × (disk.new ≡ disk.old) }

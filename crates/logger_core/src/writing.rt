@@ -8,6 +8,7 @@ ghost use Rattle.logger_core.specs.Going.{AreSmall, HoldsNoMore, OnlyGrows};
 ghost use Rattle.logger_core.specs.Grouping.{AreAllEnough, AreWritten, BeginsRun, Told, samples_of};
 ghost use Rattle.logger_core.specs.Held.{AreRuns, AreRunsBounded, IsRunBounded, IsRunOf, RunWritten, after_run, after_runs, counts_of, run_files};
 ghost use Rattle.logger_core.specs.Meant.{Meant, IsAt};
+ghost use Rattle.logger_core.specs.Passing.{HasPassedFirst};
 ghost use Rattle.logger_core.specs.Runs.{SurvivesWith};
 
 use crate::ends::Ends;
@@ -55,6 +56,8 @@ pub(crate) fn write_runs<D: Disk>(
     ensures small { IfOk result AreSmall }
     ensures written { D.tells → (m : Meant) (limit : ℕ) (group : Sequence Told) (now : Sequence Record) (after : Numbers) → IsAt m ends.now (D.held disk.old) → m.contents.label ≡ label.now → AreRuns m.contents.records ends.now limit runs.now group now after → AreAllEnough group
         → IfErr result (λ k. AreWritten m ends.now.volume limit group k (D.held disk.new)) }
+    ensures passed { D.tells → (m : Meant) (limit : ℕ) (group : Sequence Told) (now : Sequence Record) (after : Numbers) → IsAt m ends.now (D.held disk.old) → m.contents.label ≡ label.now → AreRuns m.contents.records ends.now limit runs.now group now after → AreAllEnough group
+        → IfErr result (λ k. HasPassedFirst D.Disk m ends.now.volume limit group k disk.old disk.new) }
     ensures begins { (records : Sequence Record) (limit : ℕ) (group : Sequence Told) (now : Sequence Record) (after : Numbers) → AreRuns records ends.now limit runs.now group now after → IfErr result (λ k. BeginsRun records ends.now limit group k) }
     ensures nothing { runs.now ≡ [] → disk.new ≡ disk.old }
     ensures few { IfErr result (λ k. k < counts_of runs.now) }

@@ -9,6 +9,7 @@ use Rattle.logger_core.specs.Runs.{SurvivesWith}
 use Rattle.logger_core.proofs.Begun.{none_written}
 use Rattle.logger_core.proofs.Calls.{no_call, run_as, run_then}
 use Rattle.logger_core.proofs.Loggable.{survives_more}
+use Rattle.logger_core.proofs.Passed.{later_passed, none_passed}
 use Rattle.logger_core.proofs.Rests.{image_survives}
 use Rattle.logger_core.proofs.RunsWritten.{begins_first, begins_later, first_enough, first_survives, never_none, nothing_written, rest_at, rest_enough, rest_first, rest_runs, rest_survives, rest_written}
 use Rattle.logger_core.proofs.writing.+write_runs.Goals as goal
@@ -168,3 +169,30 @@ returns-in-Err-write_runs-clause-begins g t c = λ records limit group now after
     let is = c.in-Ok.ensures.exact in
     begins_later records e limit run rest group now after a c.in-Err-write_runs.k (run.count + c.in-Err-write_runs.k) refl
     (subst (λ (x : Ends). BeginsRun a.3 x limit a.1 c.in-Err-write_runs.k) (is ∙ sym a.5.after_is) (c.in-Err-write_runs.ensures.begins a.3 limit a.1 now after (rest_at records e next limit run rest group now after a is)))
+
+pub returns-in-Err-clause-passed : goal.returns-in-Err-clause-passed
+returns-in-Err-clause-passed g t c = λ tells m limit group now after at same all enough.
+    let d = g.D.Disk in
+    let e = c.args.ends.now in
+    let run = c.in-Some.first.now in
+    let rest = c.in-Some.rest.now in
+    let a = subst (λ rs. AreRuns m.contents.records e limit rs group now after) c.in-Some.ensures.cases.0 all in
+    none_passed d g.met.D.Disk.only_now m e limit group c.args.disk.now c.write_one.new.disk at
+    (run_as d g.met.D.Disk.only_now c.args.disk.now c.write_one.new.disk (SurvivesWith m (samples_of group)) (SurvivesWith m (samples_of a.0))
+    (c.write_one.ensures.any_moment tells m limit a.0 a.3 a.4 at same a.5 (first_enough m e (after_run e run) limit run rest group now after a enough refl))
+    (first_survives m e (after_run e run) limit run rest group now after a enough refl))
+
+pub returns-in-Err-write_runs-clause-passed : goal.returns-in-Err-write_runs-clause-passed
+returns-in-Err-write_runs-clause-passed g t c = λ tells m limit group now after at same all enough.
+    let d = g.D.Disk in
+    let e = c.args.ends.now in
+    let run = c.in-Some.first.now in
+    let rest = c.in-Some.rest.now in
+    let mid = d.held c.write_one.new.disk in
+    let a = subst (λ rs. AreRuns m.contents.records e limit rs group now after) c.in-Some.ensures.cases.0 all in
+    let next = c.in-Ok.next in
+    let is = c.in-Ok.ensures.exact in
+    let few = first_enough m e next limit run rest group now after a enough is in
+    let w = c.in-Ok.ensures.ok tells m limit a.0 a.3 a.4 at same a.5 few in
+    later_passed d g.met.D.Disk.only_now m e next limit run rest group now after a c.args.disk.now c.write_one.new.disk c.write_runs.new.disk w (c.write_one.ensures.any_moment tells m limit a.0 a.3 a.4 at same a.5 few) c.in-Err-write_runs.k (run.count + c.in-Err-write_runs.k) refl
+    (c.in-Err-write_runs.ensures.passed tells w.new limit a.1 now after w.at (w.label_same ∙ same) (rest_runs m e next limit run rest group now after a enough is mid w) (rest_enough m e next limit run rest group now after a enough is))
