@@ -137,9 +137,9 @@ returns-clause-went g c = λ tells enough left events start h.
     let mid = c.open_for.new.disk in
     let es = opening r.result.stamp events in
     let opened : Keeps left es middle (d.held mid) = c.in_ok-open_for.ensures.done tells left events h.keeps in
-    let now : HasKept d left es start middle mid = kept_opened d left g.met.D.Disk.only_now start c.args.disk.now mid old middle c.open_for.ensures.same.0 c.open_for.ensures.same.1 r.result.stamp events h (c.open_for.ensures.any_moment tells left events h.keeps) opened in
-    take_went d left g.met.D.Disk.only_now events r start mid old middle c.take.new.self opened c.in_ok-open_for.ensures.open_.1 c.open_for.ensures.same.0 c.open_for.ensures.same.1 now.went
-    c.take.result c.take.ensures.same.0 c.take.ensures.same.1 (c.take.ensures.done enough left es (d.held mid) opened) c.take.ensures.cause (c.take.ensures.fault enough left es (d.held mid) opened)
+    let now : HasKept d left es start middle mid = kept_opened d left g.met.D.Disk.only_now start c.args.disk.now mid old middle c.open_for.ensures.same.0 c.open_for.ensures.same.1 r.result.stamp events h (c.open_for.ensures.any_moment tells left events h.keeps) opened (λ was. let still = c.open_for.ensures.stays was in (still.1, still.2)) in
+    take_went d left g.met.D.Disk.only_now events r start mid old middle c.take.new.self opened c.in_ok-open_for.ensures.open_.1 c.open_for.ensures.same.0 c.open_for.ensures.same.1 now.went now.held
+    c.take.result c.take.ensures.same.0 c.take.ensures.same.1 (c.take.ensures.done enough left es (d.held mid) opened) c.take.ensures.holds c.take.ensures.cause (c.take.ensures.fault enough left es (d.held mid) opened)
 
 pub returns-clause-unwritten : goal.returns-clause-unwritten
 returns-clause-unwritten g c = λ was. (c.open_for.ensures.stays was).2

@@ -112,7 +112,8 @@ returns-in-Ok g c =
       any_moment = λ tells left events k. batch_comes d left events old first last k batch was (c.write_held.ensures.any_moment tells);
       went = λ tells left events start h. kept_still d left g.met.D.Disk.only_now start first last old (with_place s (Open now)) label limit events h
           (batch_comes d left events old first last h.keeps batch was (c.write_held.ensures.any_moment tells))
-          (subst (λ (t : Carried). Keeps left events t (d.held last)) (sym new) (writes left events old held h.keeps batch now (d.held last) was (c.in-Ok.ensures.done tells) emptied (λ none. ap d.held (idle (ap counts_of none)).2)));
+          (subst (λ (t : Carried). Keeps left events t (d.held last)) (sym new) (writes left events old held h.keeps batch now (d.held last) was (c.in-Ok.ensures.done tells) emptied (λ none. ap d.held (idle (ap counts_of none)).2)))
+          (ap (λ (x : HeldBack). counts_of x.runs) emptied);
       closed = λ h. open_not_closed old batch was h;
       idle = λ working nothing.
           let still = idle (sym (ap held_in was) ∙ nothing) in (refl, put_back s old (Open now) c.self.view_is (is ∙ ap (λ (x : HeldBack). Open x) (sym still.1)), still.2);
