@@ -17,7 +17,7 @@ use Rattle.logging_session.specs.Answers.{ComesBackBy, FlushMayAnswer, OpenMayAn
 use Rattle.logging_session.specs.ComingBack.{ComesBackTo}
 use Rattle.logging_session.specs.Course.{HasKept, HasNotClosed, HasNotFlushed, HasNotLogged, HasPassed, HasTurnedAway, WentBy, WereHeld}
 use Rattle.logging_session.specs.Events.{EndsLogged, Event, acknowledged_by, behind, items_by, opening, sure_after}
-use Rattle.logging_session.specs.Keeping.{Carried, HasFailed, HasLogger, HasLost, IsClosed, IsFailed, IsOpen, IsPlace, Keeps, held_in}
+use Rattle.logging_session.specs.Keeping.{Carried, HasFailed, HasFound, HasLogger, HasLost, IsClosed, IsFailed, IsFound, IsOpen, IsPlace, Keeps, held_in}
 use Rattle.logging_session.specs.Written.{Refuses, Report, Stand, Written}
 use Rattle.logging_session.proofs.Events.{items_more}
 use Rattle.logging_session.proofs.Going.{comes_fewer, comes_more}
@@ -169,6 +169,17 @@ module _ (l : LabelFields) (left : Files) (limit : ℕ) (events : List Event) (h
   place_some e es some (Stand.opened w) (Found archive) is = absurd is
   place_some e es some (Stand.opened w) Lost is = absurd is
   place_some e es some (Stand.opened w) (Failed lost) is = absurd is
+
+  place_found : (stand : Stand) (place : Place) → IsPlace l left limit events stand place held → HasFound place → events ≡ []
+  place_found (Stand.found files) (Found archive) is found = is.1.none
+  place_found (Stand.opened w) (Found archive) is found = absurd is
+  place_found stand (Open b) is found = absurd found
+  place_found stand Lost is found = absurd found
+  place_found stand (Failed lost) is found = absurd found
+
+-- before it is open nothing was done in it
+pub found_none : (left : Files) (events : List Event) (s : Carried) (held : Holdings) → Keeps left events s held → IsFound s → events ≡ []
+found_none left events s held k found = place_found s.label left s.limit events held k.stand s.place k.place found
 
 -- a session that is closed holds nothing
 closed_holds : (place : Place) → HasLost place ⊎ HasFailed place → held_in place ≡ 0

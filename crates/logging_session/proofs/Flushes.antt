@@ -87,13 +87,13 @@ module _ {name : LabelFields} (left : Files) (limit : ℕ) (events : List Event)
       let new : Written = record { files = f.new.files; contents = f.new.contents; volume = w.volume } in
       let items : items_by (events ++ Event.flushed ∷ []) ≡ items_by events = items_more events Event.flushed ∙ append-nil (items_by events) in
       let flushes : Flushes w new = record {
-          step = subst (λ (n : ℕ). FlushStep w.files w.contents n f.new.files) g.volume f.step;
-          is = f.is.at.stands.keeps.is;
-          records = ap (λ (c : ArchiveContents). c.records) same;
-          items = f.items_same;
-          volume = refl;
-          last = subst (λ (n : ℕ). EndsWhole f.new.files f.new.contents n) number last;
-        } in (
+        step = subst (λ (n : ℕ). FlushStep w.files w.contents n f.new.files) g.volume f.step;
+        is = f.is.at.stands.keeps.is;
+        records = ap (λ (c : ArchiveContents). c.records) same;
+        items = f.items_same;
+        volume = refl;
+        last = subst (λ (n : ℕ). EndsWhole f.new.files f.new.contents n) number last;
+      } in (
         new,
         flushes,
         record {

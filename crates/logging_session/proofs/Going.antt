@@ -186,17 +186,17 @@ logged_more : (reports : List Report) (r : Report) → logged_all (reports ++ r 
 logged_more [] r = refl
 logged_more (q ∷ reports) r = ap (λ (es : List Event). Event.logged q ∷ es) (logged_more reports r)
 
-each_more : (limit : ℕ) (first w : Written) (sure : ℕ) (reports : List Report) (last : Written) (all : ℕ) (r : Report) (new : Written) (now : ℕ) → LogsEach limit first w sure reports last all → Logs limit r last new
-    → LogsOne (meant_of first last all) last.volume limit r.result r.facts (meant_of first new now) new.volume → LogsEach limit first w sure (reports ++ r ∷ []) new now
-each_more limit first w sure [] last all r new now each logs one = (
+each_more : (limit : ℕ) (first w : Written) (k : ℕ) (reports : List Report) (last : Written) (all : ℕ) (r : Report) (new : Written) (now : ℕ) → LogsEach limit first w k reports last all → Logs limit r last new
+    → LogsOne (meant_of first last all) last.volume limit r.result r.facts (meant_of first new now) new.volume → LogsEach limit first w k (reports ++ r ∷ []) new now
+each_more limit first w k [] last all r new now each logs one = (
   new,
   now,
   subst (λ (x : Written). Logs limit r x new) each.0 logs,
-  subst (λ (x : Written). LogsOne (meant_of first x sure) x.volume limit r.result r.facts (meant_of first new now) new.volume) each.0
+  subst (λ (x : Written). LogsOne (meant_of first x k) x.volume limit r.result r.facts (meant_of first new now) new.volume) each.0
       (subst (λ (n : ℕ). LogsOne (meant_of first last n) last.volume limit r.result r.facts (meant_of first new now) new.volume) each.1 one),
   (refl, refl),
 )
-each_more limit first w sure (q ∷ reports) last all r new now each logs one = (each.0, each.1, each.2, each.3, each_more limit first each.0 each.1 reports last all r new now each.4 logs one)
+each_more limit first w k (q ∷ reports) last all r new now each logs one = (each.0, each.1, each.2, each.3, each_more limit first each.0 each.1 reports last all r new now each.4 logs one)
 
 told_more : (reports : List Report) (r : Report) → told_of (reports ++ r ∷ []) ≡ told_of reports ++ (r.result, r.facts) ∷ []
 told_more reports r = map-append (λ (x : Report). (x.result, x.facts)) reports (r ∷ [])
@@ -238,28 +238,28 @@ module _ {l : LabelFields} (left : Files) (limit : ℕ) (events : List Event) (r
       let step = h.one.step in
       let stands = h.is.stands.keeps in
       let logs : Logs limit r w new = record {
-          ends = all_ends;
-          ends_are = ends_are;
-          loggable = loggable_here may;
-          step = record {
-            greatest = step.greatest;
-            is_greatest = step.is_greatest;
-            missing = step.missing;
-            needed = step.needed;
-            crossing = step.crossing;
-            crosses_is = step.crosses_is ∙ ap₂ (λ (l n : ℕ). crosses l (length (w.files (Volume n))) (payload_length r.result + 8)) g.limit_is g.volume;
-            is = λ file. step.is file
-                ∙ ap (λ (n : ℕ). with_run (base_number step.crossing n) (framed_records step.missing) (frame (payload r.result)) (base_files step.crossing w.files w.contents n step.greatest) file) g.volume;
-          };
-          is = stands.is;
-          records = h.one.longer.records;
-          items = h.one.longer.items;
-          last = stands.last;
-        } in
+        ends = all_ends;
+        ends_are = ends_are;
+        loggable = loggable_here may;
+        step = record {
+          greatest = step.greatest;
+          is_greatest = step.is_greatest;
+          missing = step.missing;
+          needed = step.needed;
+          crossing = step.crossing;
+          crosses_is = step.crosses_is ∙ ap₂ (λ (l n : ℕ). crosses l (length (w.files (Volume n))) (payload_length r.result + 8)) g.limit_is g.volume;
+          is = λ file. step.is file
+              ∙ ap (λ (n : ℕ). with_run (base_number step.crossing n) (framed_records step.missing) (frame (payload r.result)) (base_files step.crossing w.files w.contents n step.greatest) file) g.volume;
+        };
+        is = stands.is;
+        records = h.one.longer.records;
+        items = h.one.longer.items;
+        last = stands.last;
+      } in
       let one : LogsOne a w.volume limit r.result r.facts (meant_of g.first new h.next.acknowledged) new.volume =
-          subst (λ (n : ℕ). LogsOne a n limit r.result r.facts (meant_of g.first new h.next.acknowledged) new.volume) g.volume
-          (subst (λ (n : ℕ). LogsOne a b.planned.volume n r.result r.facts (meant_of g.first new h.next.acknowledged) new.volume) g.limit_is
-          (subst (λ (s : Start). LogsOne a b.planned.volume b.kept.limit r.result r.facts (record { start = s; files = h.next.files; contents = h.next.contents; acknowledged = h.next.acknowledged }) now.planned.volume) h.one.started h.one)) in (
+      subst (λ (n : ℕ). LogsOne a n limit r.result r.facts (meant_of g.first new h.next.acknowledged) new.volume) g.volume
+      (subst (λ (n : ℕ). LogsOne a b.planned.volume n r.result r.facts (meant_of g.first new h.next.acknowledged) new.volume) g.limit_is
+      (subst (λ (s : Start). LogsOne a b.planned.volume b.kept.limit r.result r.facts (record { start = s; files = h.next.files; contents = h.next.contents; acknowledged = h.next.acknowledged }) now.planned.volume) h.one.started h.one)) in (
         new,
         logs,
         record {

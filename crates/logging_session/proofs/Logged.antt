@@ -1,27 +1,17 @@
 -- What is left where a result is logged over an archive that was opened.
-use Rattle.std.proofs.Common.{◌≡◌, ◌≢◌, ◌⊎◌, inl, inr, ⊎_elim, ℕ, ◌≤◌, Bool, true, false, [], ◌∷◌, Option, None, Some, refl, sym, ap, ◌∙◌, subst, arith}
+use Rattle.std.proofs.Common.{◌≡◌, ◌≢◌, inl, ⊎_elim, ℕ, ◌≤◌, Bool, true, false, [], Option, None, Some, refl, sym, ap, ◌∙◌, subst, arith}
 use Rattle.std.specs.Prelude.{Contains}
 use Rattle.pcp_base.specs.Time.{Moment, microseconds}
 use Rattle.pcp_base.specs.declared.file.FileId.TheVariants.{Volume}
 use Rattle.pcp_base.specs.declared.result.Item.{Item}
-use Rattle.pcp_base.specs.declared.result.Item.TheVariants.{Sample}
-use Rattle.pcp_base.specs.declared.result.PmResult.{PmResult}
 use Rattle.pcp_model.specs.Archive.{ArchiveContents, items_of}
-use Rattle.pcp_model.specs.Disk.{CrashImage, Files, Held, Holdings, IsSettled}
+use Rattle.pcp_model.specs.Disk.{Held, Holdings, IsSettled}
 use Rattle.pcp_model.specs.Payload.{stamp_of}
 use Rattle.pcp_model.specs.Sound.{IsItemBy}
-use Rattle.pcp_outside.specs.declared.disk.Disk.{Ghosts as DiskGhosts}
-use Rattle.pcp_outside.specs.Devices.{LeavesOnly}
-use Rattle.archive_meta.specs.declared.facts.Facts.{Facts}
-use Rattle.logger_core.specs.declared.fault.LogFault.{LogFault}
-use Rattle.logger_core.specs.declared.fault.LogFault.TheVariants.{Closed, Large, NotLater, Changed, Full, NoMemory, DiskFault}
 use Rattle.logger_core.specs.Going.{IsVolumeSure}
-use Rattle.logger_core.specs.Logging.{IsLater, IsLoggable, LogMayAnswer}
-use Rattle.logger_core.specs.Meant.{Meant, Kept, IsLogger, Stands, SurvivesOf, items_in}
-use Rattle.logger_core.specs.Runs.{SurvivesWith}
+use Rattle.logger_core.specs.Logging.{IsLater}
+use Rattle.logger_core.specs.Meant.{Meant, Stands}
 use Rattle.logger_core.specs.Steps.{IsGreatest}
-use Rattle.logger_core.proofs.Calls.{no_call, run_as}
-use Rattle.logger_core.proofs.Rests.{image_survives}
 use Rattle.logger_core.proofs.Survival.{this_or_other}
 use Rattle.logging_session.proofs.ComeBack.{at_of}
 

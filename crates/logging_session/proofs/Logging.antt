@@ -1,5 +1,5 @@
 -- What `log` answers: the archive is opened, and handed the result.
-use Rattle.std.proofs.Common.{◌≡◌, ◌≢◌, inl, inr, ℕ, List, refl, sym, ◌∙◌, subst}
+use Rattle.std.proofs.Common.{◌≡◌, ◌≢◌, inl, inr, ℕ, List, sym, ◌∙◌, subst}
 use Rattle.pcp_model.specs.Disk.{Files, Holdings}
 use Rattle.pcp_model.specs.LabelFields.{LabelFields}
 use Rattle.logger_core.specs.declared.fault.LogFault.{LogFault}

@@ -1,17 +1,19 @@
 -- Where the disk failed it held, at some moment, what the events lead to without the results that are lost.
-use Rattle.std.proofs.Common.{zero, suc, ◌≡◌, ℕ, ◌+◌, ◌≤◌, List, [], ◌∷◌, ◌++◌, length, take, drop, refl, sym, ap, ◌∙◌, subst, append_assoc, arith}
+use Rattle.std.proofs.Common.{zero, suc, ◌≡◌, ℕ, ◌+◌, List, [], ◌∷◌, ◌++◌, length, take, drop, refl, sym, ap, ◌∙◌, subst, append_assoc, arith}
 use Rattle.std.specs.Prelude.{Contains}
 use Rattle.std.proofs.lemmas.List.{append_cancel_right, append-nil, length-drop, take-append-drop}
 use Rattle.pcp_base.specs.declared.file.FileId.{FileId}
 use Rattle.pcp_base.specs.declared.result.Item.{Item}
 use Rattle.pcp_base.specs.declared.result.Item.TheVariants.{Sample}
 use Rattle.pcp_model.specs.Archive.{items_of}
-use Rattle.pcp_model.specs.Disk.{Files, Holdings, contents_of}
+use Rattle.pcp_model.specs.Disk.{Files, contents_of}
 use Rattle.pcp_model.specs.LabelFields.{LabelFields}
 use Rattle.pcp_model.proofs.Lists.{each-split}
 use Rattle.pcp_outside.specs.declared.disk.Disk.{Ghosts as DiskGhosts}
 use Rattle.pcp_outside.specs.Devices.{LeavesOnly}
 use Rattle.pcp_outside.proofs.Crash.{joined, weaker}
+use Rattle.logger_core.specs.declared.fault.LogFault.{LogFault}
+use Rattle.logger_core.specs.declared.fault.LogFault.TheVariants.{Closed, DiskFault}
 use Rattle.logger_core.specs.Grouping.{LogsAll, Told, samples_of}
 use Rattle.logger_core.specs.Held.{counts_of}
 use Rattle.logger_core.specs.Holding.{HeldBack, IsHolding}
@@ -25,13 +27,13 @@ use Rattle.logger_core.proofs.Grouped.{samples_then}
 use Rattle.logger_core.proofs.Rests.{survives_same}
 use Rattle.logging_session.specs.declared.place.Place.{Place}
 use Rattle.logging_session.specs.declared.place.Place.TheVariants.{Failed, Open}
-use Rattle.logging_session.specs.Answers.{HasPassedBut}
+use Rattle.logging_session.specs.Answers.{HasPassedBut, OpenMayAnswer}
 use Rattle.logging_session.specs.ComingBack.{ComesBackTo}
 use Rattle.logging_session.specs.Course.{HasKept, HasPassed, HasPassedHeld, LeadsTo, WentBy, WereHeld}
 use Rattle.logging_session.specs.Events.{EndsLogged, Event, Lead, acknowledged_by, items_by, logged_all}
 use Rattle.logging_session.specs.Keeping.{AreApart, Carried, IsGoing, held_in, lost_in, meant_of, told_of}
 use Rattle.logging_session.specs.Written.{Report, Stand, Written}
-use Rattle.logging_session.proofs.Course.{front_sure}
+use Rattle.logging_session.proofs.Course.{found_none, front_sure}
 use Rattle.logging_session.proofs.Going.{comes_more, survivors_come}
 use Rattle.logging_session.proofs.OneChain.{leads_first}
 use Rattle.logging_session.proofs.OneReason.{last_number}
@@ -165,6 +167,10 @@ module _ {D : Type 0} (d : DiskGhosts D) (l : LabelFields) (left : Files) (limit
 
 -- ---- a call
 
+-- a closed session says so, and it isn't the disk
+pub not_the_disk : {A : Type 0} → Closed ≡ DiskFault → A
+not_the_disk is = absurd cc
+
 module _ {D : Type 0} (d : DiskGhosts D) (left : Files) (events : List Event) (start old new : D) (s t : Carried) (label : t.label ≡ s.label) (limit : t.limit ≡ s.limit) (h : HasKept d left events start s old) where
   -- where the disk failed while it wrote what was held, or then made it sure
   pub batch_passed : (b : HeldBack) → s.place ≡ Open b → (gone : ℕ) → t.place ≡ Failed gone → ((m o : Meant) (pending : List Told) → IsHolding m b pending o (d.held old) → HasPassedBut d m b pending gone old new) → HasPassedHeld d left events start t new
@@ -186,3 +192,9 @@ module _ {D : Type 0} (d : DiskGhosts D) (left : Files) (events : List Event) (s
         passed = subst (λ (x : LabelFields). HasPassed d x t.limit left events (items_by events) start new) (sym label) (subst (λ (n : ℕ). HasPassed d s.label n left events (items_by events) start new) (sym limit)
             (subst (λ (xs : List Item). HasPassed d s.label s.limit left events xs start new) (append-nil (items_by events)) p));
       }
+
+  -- where it failed as the archive was opened
+  pub open_passed : (before after : ℕ) (e : LogFault) → e ≡ DiskFault → OpenMayAnswer s t before after e → WentBy d s.label s.limit left events [] start new → HasPassedHeld d left events start t new
+  open_passed before after e is may went =
+      let why : OpenMayAnswer s t before after DiskFault = subst (λ (f : LogFault). OpenMayAnswer s t before after f) is may in
+      none_passed (found_none left events s (d.held old) h.keeps why.0) (ap lost_in why.1) went

@@ -1,7 +1,6 @@
 -- What holds of a session by where its archive stands, over any disk.
 use Rattle.std.proofs.Common.{◌≡◌, ◌≢◌, ◌⊎◌, inl, inr, ⊎_elim, ℕ, ◌+◌, ◌<◌, ◌≤◌, min, false, [], refl, sym, ap, subst, arith}
 use Rattle.pcp_base.specs.declared.result.PmResult.{PmResult}
-use Rattle.pcp_outside.specs.Causes.{Rose}
 use Rattle.archive_meta.specs.declared.facts.Facts.{Facts}
 use Rattle.archive_recovery.specs.declared.outcome.Archive.{Archive}
 use Rattle.logger_core.specs.declared.fault.LogFault.{LogFault}

@@ -1,7 +1,6 @@
 -- What a session keeps, by where its archive stands, and what a call makes of it.
 use Rattle.std.proofs.Common.{◌≡◌, inr, ℕ, ◌+◌, Bool, true, false, List, [], ◌∷◌, ◌++◌, length, refl, sym, ap, ◌∙◌, subst, arith, append-nil, length-append}
 use Rattle.std.specs.Prelude.{min}
-use Rattle.std.proofs.Math.Path.{fun_ext}
 use Rattle.pcp_base.specs.Time.{Moment}
 use Rattle.pcp_base.specs.declared.file.FileId.{FileId}
 use Rattle.pcp_base.specs.declared.file.FileId.TheVariants.{Meta, Index, Volume}

@@ -1,10 +1,8 @@
 -- What the calls of a session answer, what stands after each answer, and what a crash leaves meanwhile.
 use Rattle.std.specs.Prelude.{◌≡◌, ◌⊎◌, ℕ, ◌+◌, ◌≤◌, Bool, true, false, List}
-use Rattle.pcp_base.specs.declared.result.Item.{Item}
 use Rattle.pcp_model.specs.Disk.{Files, Holdings}
 use Rattle.pcp_model.specs.Payload.{payload_length}
 use Rattle.pcp_outside.specs.Causes.{Rose, shown_count}
-use Rattle.pcp_outside.specs.Devices.{LeavesOnly}
 use Rattle.pcp_outside.specs.declared.disk.Disk.{Ghosts as DiskGhosts}
 use Rattle.logger_core.specs.declared.ends.Ends.{Ends}
 use Rattle.logger_core.specs.declared.fault.LogFault.{LogFault}
@@ -20,10 +18,10 @@ use Rattle.logger_core.specs.Passing.{HasPassedRuns}
 use Rattle.logging_session.specs.declared.place.Place.{Place}
 use Rattle.logging_session.specs.declared.place.Place.TheVariants.{Failed, Found, Open}
 use Rattle.logging_session.specs.ComingBack.{ComesBackTo}
-use Rattle.logging_session.specs.Events.{Event, LeadFrom, acknowledged_by, items_by, opening}
+use Rattle.logging_session.specs.Events.{Event, acknowledged_by, items_by, opening}
 use Rattle.logging_session.specs.Keeping.{Carried, IsClosed, IsFailed, IsFound, IsLost, IsOpen, IsWorking, Keeps, held_in, lost_in}
 use Rattle.logging_session.specs.Opening.{MayWantMemory}
-use Rattle.logging_session.specs.Written.{Refuses, Report, Stand, Takes, Written}
+use Rattle.logging_session.specs.Written.{Refuses, Report, Stand, Written}
 
 -- A crash leaves the items of the start and the first ones of these events, all that they acknowledge among them
 abbrev pub ComesBackBy : List Event → Files → Files → Type 0
