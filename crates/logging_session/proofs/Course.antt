@@ -332,11 +332,6 @@ module _ {D : Type 0} (d : DiskGhosts D) (left : Files) where
       not_flushed before after NoMemory may still = absurd may
       not_flushed before after DiskFault may still = went_still s.label s.limit events start old new h.went run
 
-      pub write_went : {T : Type 0} (result : Result T LogFault) (before after : ℕ) → OnOk result (Keeps left events t (d.held new)) → OnOk result (held_in t.place ≡ 0) → IfErr result (FlushMayAnswer s t before after)
-          → (IsClosed s → (result ≡ Err Closed) × (t ≡ s) × (new ≡ old)) → MatchResult result (λ _. HasKept d left events start t new) (HasNotFlushed d left events start s t new)
-      write_went (Ok v) before after done nothing may closed = kept_still start old new s t label limit events h run done nothing
-      write_went (Err fault) before after done nothing may closed = not_flushed before after fault may (λ was. (closed was).2)
-
       pub flush_went : {T : Type 0} (e : Event) → items_by (e ∷ []) ≡ [] → (result : Result T LogFault) (before after : ℕ) → OnOk result (Keeps left (behind events e) t (d.held new)) → OnOk result (held_in t.place ≡ 0) → IfErr result (FlushMayAnswer s t before after)
           → (IsClosed s → (result ≡ Err Closed) × (t ≡ s) × (new ≡ old)) → MatchResult result (λ _. HasKept d left (behind events e) start t new) (HasNotFlushed d left events start s t new)
       flush_went e none (Ok v) before after done nothing may closed = kept_behind start old new s t label limit e none events h run done nothing

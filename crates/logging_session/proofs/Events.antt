@@ -56,10 +56,6 @@ pub opening_items : (stamp : Moment) (events : List Event) → items_by (opening
 opening_items stamp [] = refl
 opening_items stamp (e ∷ events) = refl
 
-pub opening_sure : (stamp : Moment) (events : List Event) → acknowledged_by (opening stamp events) ≡ acknowledged_by events
-opening_sure stamp [] = refl
-opening_sure stamp (e ∷ events) = refl
-
 -- ---- the end of a session
 
 pub closing_none : (events : List Event) → items_by events ≡ [] → closing events ≡ events

@@ -48,16 +48,6 @@ take_may r old middle new before after (Full file bytes) working open_ stays may
 take_may r old middle new before after NoMemory working open_ stays may = inr (stays_open old middle new working open_ stays may)
 take_may r old middle new before after DiskFault working open_ stays may = absurd may
 
--- it isn't the disk that refuses it
-pub take_no_fault : (r : Report) (middle new : Carried) (e : LogFault) → TakeMayAnswer r middle new e → e ≢ DiskFault
-take_no_fault r middle new Closed may = λ e. cc
-take_no_fault r middle new (Large bytes) may = λ e. cc
-take_no_fault r middle new (NotLater last) may = λ e. cc
-take_no_fault r middle new (Changed pmid) may = λ e. cc
-take_no_fault r middle new (Full file bytes) may = λ e. cc
-take_no_fault r middle new NoMemory may = λ e. cc
-take_no_fault r middle new DiskFault may = absurd may
-
 -- a session that is open isn't lost by it
 open_not_lost : {A : Type 0} (p : Place) → HasLogger p → HasLost p → A
 open_not_lost (Found archive) open_ lost = absurd open_

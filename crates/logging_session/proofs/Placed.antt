@@ -67,13 +67,6 @@ module _ (s : Carried) (lost : ℕ) (is : s.place ≡ Failed lost) where
   pub failed_not_open : {A : Type 0} → IsOpen s → A
   failed_not_open open_ = absurd (subst HasLogger is open_)
 
--- an open session isn't closed
-pub open_or_closed : {A : Type 0} (p : Place) → HasLogger p → HasLost p ⊎ HasFailed p → A
-open_or_closed (Found archive) open_ closed = absurd open_
-open_or_closed (Open b) open_ closed = neither closed
-open_or_closed Lost open_ closed = absurd open_
-open_or_closed (Failed lost) open_ closed = absurd open_
-
 pub closed_not_working : {A : Type 0} (p : Place) → HasLost p ⊎ HasFailed p → HasFound p ⊎ HasLogger p → A
 closed_not_working (Found archive) closed working = neither closed
 closed_not_working (Open b) closed working = neither closed

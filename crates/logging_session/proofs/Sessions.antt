@@ -120,9 +120,6 @@ module _ (left : Files) (events : List Event) (s : Carried) (old : Holdings) (k 
   opens_no_more b is stamp =
       subst (λ (es : List Event). Keeps left es s old) (sym (opening_is s.label s.limit left events (when_open b is).w stamp (when_opened_leads b is))) k
 
-  pub same_kept : (t : Carried) (held : Holdings) → t ≡ s → held ≡ old → Keeps left events t held
-  same_kept t held same still = subst (λ (c : Carried). Keeps left events c held) (sym same) (subst (λ (h : Holdings). Keeps left events s h) (sym still) k)
-
   -- ---- opening
 
   pub found_comes : (archive : Archive) → s.place ≡ Found archive → (image : Files) → ComesBackTo [] 0 (contents_of old) image → ComesBackBy events left image

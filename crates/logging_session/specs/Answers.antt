@@ -121,7 +121,7 @@ abbrev pub CountsAll : Place → Type 0
 CountsAll (Open b) = (b.planned ≡ b.kept.ends) × (b.kept.ends.acknowledged ≡ b.kept.ends.logged)
 CountsAll place = Unit {0}
 
--- and then is handed the result
+-- and then judges and holds the result
 abbrev pub TakeMayAnswer : Report → Carried → Carried → LogFault → Type 0
 TakeMayAnswer r old new Closed = ⊥
 TakeMayAnswer r old new DiskFault = ⊥

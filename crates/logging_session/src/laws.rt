@@ -12,12 +12,12 @@ pub fn kept_counts_survive()
     ensures { KeptCountsSurvive }
 {}
 
-/// The files between two calls are those to which the session's events lead.
+/// Where nothing is held, the files between two calls are those to which the session's events lead.
 pub fn kept_files_are_led()
     ensures { KeptFilesAreLed }
 {}
 
-/// Recovery changes nothing of them.
+/// Recovery changes nothing of the files between two calls, also while results are held.
 pub fn kept_files_are_whole()
     ensures { KeptFilesAreWhole }
 {}

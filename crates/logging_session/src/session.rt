@@ -281,6 +281,8 @@ impl Session {
         ensures working { OnOk result (IsWorking self.old × IsWorking self.new) }
         ensures open_ { OnOk result (IsOpen self.old → IsOpen self.new) }
         ensures cause { IfErr result (FlushMayAnswer self.old self.new (D.faults disk.old) (D.faults disk.new)) }
+        // Where the disk fails at least one is lost.
+        ensures loses { IfErr result (λ e. e ≡ DiskFault → 0 < lost_in self.new.place) }
         ensures same { (self.new.label ≡ self.old.label) × (self.new.limit ≡ self.old.limit) × (self.new.logged ≡ self.old.logged) }
         ensures later { D.faults disk.old ≤ D.faults disk.new }
         ensures quiet { OnOk result (D.faults disk.new ≡ D.faults disk.old) }

@@ -1,5 +1,6 @@
 -- What is open is written.
 use Rattle.std.proofs.Common.{◌≡◌, inl, inr, refl, sym, ap, ◌∙◌, subst, arith}
+use Rattle.logger_core.specs.declared.fault.LogFault.TheVariants.{Closed, DiskFault}
 use Rattle.logger_core.specs.Held.{counts_of}
 use Rattle.logger_core.specs.Holding.{HeldBack}
 use Rattle.logger_core.proofs.Calls.{no_call}
@@ -12,6 +13,9 @@ use Rattle.logging_session.proofs.Passing.{batch_passed, not_the_disk}
 use Rattle.logging_session.proofs.Placed.{closed_not_working, failed_closed, few_lost, fewer_than, found_is, found_not_closed, found_not_open, lost_closed, none_lost, nothing_held, open_is, open_may_log, open_not_closed, same_count}
 use Rattle.logging_session.proofs.Sessions.{batch_comes, kept_comes, put_back, with_place, writes}
 use Rattle.logging_session.proofs.session.Session.write.Goals as goal
+
+no_fault : Closed ≡ DiskFault → ⊥
+no_fault e = cc
 
 pub returns-in-Found : goal.returns-in-Found
 returns-in-Found g c =
@@ -34,6 +38,7 @@ returns-in-Found g c =
       none = ap held_in is;
       open_ = λ h. found_not_open old a was h;
       cause = tt;
+      loses = tt;
       same = (ap (λ (t : Carried). t.label) c.self.view_is, ap (λ (t : Carried). t.limit) c.self.view_is, ap (λ (t : Carried). t.logged) c.self.view_is);
       later = same_count (d.faults c.args.disk.now);
       quiet = refl;
@@ -60,6 +65,7 @@ returns-in-Lost g c =
       working = tt;
       open_ = tt;
       cause = (lost_closed old was, same);
+      loses = λ e. absurd (no_fault e);
       same = (ap (λ (t : Carried). t.label) c.self.view_is, ap (λ (t : Carried). t.limit) c.self.view_is, ap (λ (t : Carried). t.logged) c.self.view_is);
       later = same_count (d.faults c.args.disk.now);
       quiet = tt;
@@ -87,6 +93,7 @@ returns-in-Failed g c =
       working = tt;
       open_ = tt;
       cause = (failed_closed old lost was, same);
+      loses = λ e. absurd (no_fault e);
       same = (ap (λ (t : Carried). t.label) c.self.view_is, ap (λ (t : Carried). t.limit) c.self.view_is, ap (λ (t : Carried). t.logged) c.self.view_is);
       later = same_count (d.faults c.args.disk.now);
       quiet = tt;
@@ -126,6 +133,7 @@ returns-in-Ok g c =
       working = (inr (open_is old batch was), inr tt);
       open_ = λ h. tt;
       cause = tt;
+      loses = tt;
       same = (label, limit, ap (λ (t : Carried). t.logged) c.self.view_is);
       later = c.write_held.ensures.later;
       quiet = c.in-Ok.ensures.quiet;
@@ -154,6 +162,7 @@ returns-in-Err g c =
       working = tt;
       open_ = tt;
       cause = (open_is old batch was, tt, fewer_than old batch was c.in-Err.lost lost.1, lost.2);
+      loses = λ e. lost.0;
       same = (ap (λ (t : Carried). t.label) c.self.view_is, ap (λ (t : Carried). t.limit) c.self.view_is, ap (λ (t : Carried). t.logged) c.self.view_is);
       later = c.write_held.ensures.later;
       quiet = tt;
