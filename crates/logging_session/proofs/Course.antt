@@ -15,15 +15,16 @@ use Rattle.logging_session.specs.declared.place.Place.{Place}
 use Rattle.logging_session.specs.declared.place.Place.TheVariants.{Found, Open, Lost, Failed}
 use Rattle.logging_session.specs.Answers.{ComesBackBy, FlushMayAnswer, OpenMayAnswer, TakeFails, TakeMayAnswer}
 use Rattle.logging_session.specs.ComingBack.{ComesBackTo}
-use Rattle.logging_session.specs.Course.{HasKept, HasNotClosed, HasNotFlushed, HasNotLogged, HasPassed, HasTurnedAway, WentBy}
+use Rattle.logging_session.specs.Course.{HasKept, HasNotClosed, HasNotFlushed, HasNotLogged, HasPassed, HasTurnedAway, WentBy, WereHeld}
 use Rattle.logging_session.specs.Events.{EndsLogged, Event, acknowledged_by, behind, items_by, opening, sure_after}
-use Rattle.logging_session.specs.Keeping.{Carried, HasFailed, HasLost, IsClosed, IsFailed, IsOpen, IsPlace, Keeps, held_in}
+use Rattle.logging_session.specs.Keeping.{Carried, HasFailed, HasFound, HasLogger, HasLost, IsClosed, IsFailed, IsFound, IsOpen, IsPlace, Keeps, held_in}
 use Rattle.logging_session.specs.Written.{Refuses, Report, Stand, Written}
 use Rattle.logging_session.proofs.Events.{items_more}
 use Rattle.logging_session.proofs.Going.{comes_fewer, comes_more}
+use Rattle.logging_session.proofs.HeldEvents.{held_behind, none_held}
 use Rattle.logging_session.proofs.Logging.{opened_leads}
 use Rattle.logging_session.proofs.Placed.{neither}
-use Rattle.logging_session.proofs.Sessions.{kept_comes, kept_files, kept_holds_none, same_kept}
+use Rattle.logging_session.proofs.Sessions.{kept_comes, kept_files, kept_holds_none}
 
 -- ---- the first ones of some events
 
@@ -136,35 +137,68 @@ front_sure events front rest is = subst (λ (es : List Event). acknowledged_by f
 
 -- ---- a closed session that is kept
 
-module _ (left : Files) (limit : ℕ) (events : List Event) (held : Holdings) where
-  place_failed : {A : Type 0} (stand : Stand) (lost : ℕ) → IsPlace left limit events stand (Failed lost) held → A
+module _ (l : LabelFields) (left : Files) (limit : ℕ) (events : List Event) (held : Holdings) where
+  place_failed : {A : Type 0} (stand : Stand) (lost : ℕ) → IsPlace l left limit events stand (Failed lost) held → A
   place_failed (Stand.found files) lost is = absurd is
   place_failed (Stand.opened w) lost is = absurd is
 
-  place_lost : (stand : Stand) → IsPlace left limit events stand Lost held → events ≡ []
+  place_lost : (stand : Stand) → IsPlace l left limit events stand Lost held → events ≡ []
   place_lost (Stand.found files) is = is.none
   place_lost (Stand.opened w) is = absurd is
 
-  place_closed : (stand : Stand) (place : Place) → IsPlace left limit events stand place held → HasLost place ⊎ HasFailed place → events ≡ []
+  place_closed : (stand : Stand) (place : Place) → IsPlace l left limit events stand place held → HasLost place ⊎ HasFailed place → events ≡ []
   place_closed stand (Found archive) is closed = neither closed
   place_closed stand (Open b) is closed = neither closed
   place_closed stand Lost is closed = place_lost stand is
   place_closed stand (Failed lost) is closed = place_failed stand lost is
 
-  place_not_failed : {A : Type 0} (stand : Stand) (place : Place) → IsPlace left limit events stand place held → HasFailed place → A
+  place_not_failed : {A : Type 0} (stand : Stand) (place : Place) → IsPlace l left limit events stand place held → HasFailed place → A
   place_not_failed stand (Found archive) is failed = absurd failed
   place_not_failed stand (Open b) is failed = absurd failed
   place_not_failed stand Lost is failed = absurd failed
   place_not_failed stand (Failed lost) is failed = place_failed stand lost is
 
+  none_behind : {A : Type 0} (e : Event) (es : List Event) → events ≡ e ∷ es → events ≡ [] → A
+  none_behind e es some none = absurd (let no : [] ≡ e ∷ es = sym none ∙ some in cc)
+
+  place_some : (e : Event) (es : List Event) → events ≡ e ∷ es → (stand : Stand) (place : Place) → IsPlace l left limit events stand place held → HasLogger place
+  place_some e es some stand (Open b) is = tt
+  place_some e es some (Stand.found files) (Found archive) is = none_behind e es some is.1.none
+  place_some e es some (Stand.found files) Lost is = none_behind e es some is.none
+  place_some e es some (Stand.found files) (Failed lost) is = absurd is
+  place_some e es some (Stand.opened w) (Found archive) is = absurd is
+  place_some e es some (Stand.opened w) Lost is = absurd is
+  place_some e es some (Stand.opened w) (Failed lost) is = absurd is
+
+  place_found : (stand : Stand) (place : Place) → IsPlace l left limit events stand place held → HasFound place → events ≡ []
+  place_found (Stand.found files) (Found archive) is found = is.1.none
+  place_found (Stand.opened w) (Found archive) is found = absurd is
+  place_found stand (Open b) is found = absurd found
+  place_found stand Lost is found = absurd found
+  place_found stand (Failed lost) is found = absurd found
+
+-- before it is open nothing was done in it
+pub found_none : (left : Files) (events : List Event) (s : Carried) (held : Holdings) → Keeps left events s held → IsFound s → events ≡ []
+found_none left events s held k found = place_found s.label left s.limit events held k.stand s.place k.place found
+
+-- a session that is closed holds nothing
+closed_holds : (place : Place) → HasLost place ⊎ HasFailed place → held_in place ≡ 0
+closed_holds (Found archive) closed = refl
+closed_holds (Open b) closed = neither closed
+closed_holds Lost closed = refl
+closed_holds (Failed lost) closed = refl
+
+kept_is_open : (left : Files) (e : Event) (events : List Event) (s : Carried) (held : Holdings) → Keeps left (e ∷ events) s held → IsOpen s
+kept_is_open left e events s held k = place_some s.label left s.limit (e ∷ events) held e events refl k.stand s.place k.place
+
 module _ (left : Files) (events : List Event) (s : Carried) (held : Holdings) (k : Keeps left events s held) where
   -- nothing was done in it
   closed_none : IsClosed s → events ≡ []
-  closed_none closed = place_closed left s.limit events held k.stand s.place k.place closed
+  closed_none closed = place_closed s.label left s.limit events held k.stand s.place k.place closed
 
   -- and the disk didn't fail
   pub kept_not_failed : {A : Type 0} → IsFailed s → A
-  kept_not_failed failed = place_not_failed left s.limit events held k.stand s.place k.place failed
+  kept_not_failed failed = place_not_failed s.label left s.limit events held k.stand s.place k.place failed
 
 -- ---- over any disk
 
@@ -237,44 +271,60 @@ module _ {D : Type 0} (d : DiskGhosts D) (left : Files) where
       keeps = k;
       went = λ front rest is other. subst (λ (es : List Event). HasPassed d s.label s.limit left es ([] ++ []) disk disk) (sym (none_front front rest is))
           (stands_now [] s disk disk k (kept_holds_none left [] s (d.held disk) k refl) (no_call d only_now disk (ComesBackTo [] 0 left) (kept_comes left [] s (d.held disk) k)));
+      held = none_held d left [] (held_in s.place) disk disk (kept_holds_none left [] s (d.held disk) k refl) (no_call d only_now disk (ComesBackTo [] 0 left) (kept_comes left [] s (d.held disk) k));
     }
+
+    -- nothing was done
+    kept_same : (events : List Event) (start old new : D) (s t : Carried) → t ≡ s → new ≡ old → HasKept d left events start s old → HasKept d left events start t new
+    kept_same events start old new s t same still h = subst (λ (c : Carried). HasKept d left events start c new) (sym same) (subst (λ (disk : D). HasKept d left events start s disk) (sym still) h)
 
     -- ---- a call that keeps the session
 
     module _ (start old new : D) (s t : Carried) (label : t.label ≡ s.label) (limit : t.limit ≡ s.limit) where
-      pub kept_still : (events : List Event) → HasKept d left events start s old → Leaves old new (ComesBackBy events left) → Keeps left events t (d.held new) → HasKept d left events start t new
-      kept_still events h run k = record { keeps = k; went = went_as s t events start new label limit (went_still s.label s.limit events start old new h.went run) }
+      -- where nothing is held any more
+      pub kept_still : (events : List Event) → HasKept d left events start s old → Leaves old new (ComesBackBy events left) → Keeps left events t (d.held new) → held_in t.place ≡ 0 → HasKept d left events start t new
+      kept_still events h run k none = record {
+        keeps = k;
+        went = went_as s t events start new label limit (went_still s.label s.limit events start old new h.went run);
+        held = none_held d left events (held_in t.place) start new none (joined d.moment d.left_since d.held start old new (ComesBackTo (items_by events) 0 left) (went_before s.label s.limit events start old new h.went)
+            (weaker d.moment d.left_since d.held old new (ComesBackBy events left) (ComesBackTo (items_by events) 0 left) run (λ image comes. comes_fewer (items_by events) (acknowledged_by events) 0 left image (omega arith) comes)));
+      }
 
       pub kept_more : (events : List Event) (e : Event) → HasKept d left events start s old → Leaves old new (ComesBackTo (items_by events ++ items_by (e ∷ [])) (acknowledged_by events) left)
-          → Keeps left (events ++ e ∷ []) t (d.held new) → ((EndsLogged (events ++ e ∷ []) → ⊥) → held_in t.place ≡ 0) → HasKept d left (events ++ e ∷ []) start t new
-      kept_more events e h run k none =
+          → Keeps left (events ++ e ∷ []) t (d.held new) → ((EndsLogged (events ++ e ∷ []) → ⊥) → held_in t.place ≡ 0)
+          → (Leaves start new (ComesBackTo (items_by (events ++ e ∷ [])) 0 left) → WereHeld d left (events ++ e ∷ []) (held_in t.place) start new) → HasKept d left (events ++ e ∷ []) start t new
+      kept_more events e h run k none back =
           let w : WentBy d t.label t.limit left events [] start old = went_as s t events start old label limit h.went in
           let all : List Item = items_by events ++ items_by (e ∷ []) in
           let before : Leaves start new (ComesBackTo all 0 left) = joined d.moment d.left_since d.held start old new (ComesBackTo all 0 left)
           (weaker d.moment d.left_since d.held start old (ComesBackTo (items_by events) 0 left) (ComesBackTo all 0 left) (went_before t.label t.limit events start old new w)
           (λ image comes. comes_more (items_by events) (items_by (e ∷ [])) 0 left image comes))
           (weaker d.moment d.left_since d.held old new (ComesBackTo all (acknowledged_by events) left) (ComesBackTo all 0 left) run (λ image comes. comes_fewer all (acknowledged_by events) 0 left image (omega arith) comes)) in
+          let whole : Leaves start new (ComesBackTo (items_by (events ++ e ∷ [])) 0 left) = subst (λ (items : List Item). Leaves start new (ComesBackTo items 0 left)) (sym (items_more events e)) before in
           record {
             keeps = k;
+            held = back whole;
             went = goes_on t.label t.limit events start old new w e run
-                (λ other. stands_now (events ++ e ∷ []) t start new k (none other) (subst (λ (items : List Item). Leaves start new (ComesBackTo items 0 left)) (sym (items_more events e)) before));
+                (λ other. stands_now (events ++ e ∷ []) t start new k (none other) whole);
           }
 
-      pub kept_opened : (stamp : Moment) (events : List Event) → HasKept d left events start s old → Leaves old new (ComesBackBy events left) → Keeps left (opening stamp events) t (d.held new) → HasKept d left (opening stamp events) start t new
-      kept_opened stamp [] h run k = kept_more [] (Event.opened stamp) h run k (λ other. kept_holds_none left (Event.opened stamp ∷ []) t (d.held new) k refl)
-      kept_opened stamp (e ∷ events) h run k = kept_still (e ∷ events) h run k
+      pub kept_opened : (stamp : Moment) (events : List Event) → HasKept d left events start s old → Leaves old new (ComesBackBy events left) → Keeps left (opening stamp events) t (d.held new) → (IsOpen s → (t ≡ s) × (new ≡ old)) → HasKept d left (opening stamp events) start t new
+      kept_opened stamp [] h run k stays =
+          let none : held_in t.place ≡ 0 = kept_holds_none left (Event.opened stamp ∷ []) t (d.held new) k refl in
+          kept_more [] (Event.opened stamp) h run k (λ other. none) (λ whole. none_held d left (Event.opened stamp ∷ []) (held_in t.place) start new none whole)
+      kept_opened stamp (e ∷ events) h run k stays = let still = stays (kept_is_open left e events s (d.held old) h.keeps) in kept_same (e ∷ events) start old new s t still.0 still.1 h
 
       pub kept_behind : (e : Event) → items_by (e ∷ []) ≡ [] → (events : List Event) → HasKept d left events start s old → Leaves old new (ComesBackBy events left) → Keeps left (behind events e) t (d.held new) → held_in t.place ≡ 0 → HasKept d left (behind events e) start t new
-      kept_behind e none [] h run k nothing = kept_still [] h run k
+      kept_behind e none [] h run k nothing = kept_still [] h run k nothing
       kept_behind e none (x ∷ events) h run k nothing =
           let same : items_by (x ∷ events) ≡ items_by (x ∷ events) ++ items_by (e ∷ []) = sym (ap (λ (items : List Item). items_by (x ∷ events) ++ items) none ∙ append-nil (items_by (x ∷ events))) in
-          kept_more (x ∷ events) e h (subst (λ (items : List Item). Leaves old new (ComesBackTo items (acknowledged_by (x ∷ events)) left)) same run) k (λ other. nothing)
+          kept_more (x ∷ events) e h (subst (λ (items : List Item). Leaves old new (ComesBackTo items (acknowledged_by (x ∷ events)) left)) same run) k (λ other. nothing) (λ whole. none_held d left (x ∷ events ++ e ∷ []) (held_in t.place) start new nothing whole)
 
     -- ---- a write, a flush, a sync and the close
 
     module _ (start old new : D) (s t : Carried) (label : t.label ≡ s.label) (limit : t.limit ≡ s.limit) (events : List Event) (h : HasKept d left events start s old) (run : Leaves old new (ComesBackBy events left)) where
       not_flushed : (before after : ℕ) (e : LogFault) → FlushMayAnswer s t before after e → (IsClosed s → new ≡ old) → HasNotFlushed d left events start s t new e
-      not_flushed before after Closed may still = (may.0, kept_still start old new s t label limit events h run (same_kept left events s (d.held old) h.keeps t (d.held new) may.1 (ap d.held (still may.0))))
+      not_flushed before after Closed may still = (may.0, kept_same events start old new s t may.1 (still may.0) h)
       not_flushed before after (Large bytes) may still = absurd may
       not_flushed before after (NotLater last) may still = absurd may
       not_flushed before after (Changed pmid) may still = absurd may
@@ -301,23 +351,26 @@ module _ {D : Type 0} (d : DiskGhosts D) (left : Files) where
 
     pub not_opened : (start old new : D) (s t : Carried) → t.label ≡ s.label → t.limit ≡ s.limit → (events : List Event) (r : Report) → HasKept d left events start s old → Leaves old new (ComesBackBy events left)
         → (before after : ℕ) (e : LogFault) → OpenMayAnswer s t before after e → (e ≢ DiskFault → Keeps left events t (d.held new)) → HasNotLogged d left events r start s t new e
-    not_opened start old new s t label limit events r h run before after Closed may keeps = (may.0, kept_still start old new s t label limit events h run (keeps (λ e. cc)))
+    not_opened start old new s t label limit events r h run before after Closed may keeps =
+        let k : Keeps left events t (d.held new) = keeps (λ e. cc) in
+        let none : items_by events ≡ [] = ap items_by (closed_none left events s (d.held old) h.keeps may.0) in
+        (may.0, kept_still start old new s t label limit events h run k (kept_holds_none left events t (d.held new) k none))
     not_opened start old new s t label limit events r h run before after (Large bytes) may keeps = absurd may
     not_opened start old new s t label limit events r h run before after (NotLater last) may keeps = absurd may
     not_opened start old new s t label limit events r h run before after (Changed pmid) may keeps = absurd may
     not_opened start old new s t label limit events r h run before after (Full file bytes) may keeps = absurd may
-    not_opened start old new s t label limit events r h run before after NoMemory may keeps = inl (kept_still start old new s t label limit events h run (keeps (λ e. cc)))
+    not_opened start old new s t label limit events r h run before after NoMemory may keeps = inl (kept_still start old new s t label limit events h run (keeps (λ e. cc)) (closed_holds t.place (inl may.1)))
     not_opened start old new s t label limit events r h run before after DiskFault may keeps = went_still s.label s.limit events start old new h.went run
 
     -- ---- `log`: and then it is handed the result
 
     module _ (events : List Event) (r : Report) (start mid : D) (old middle new : Carried) (k : Keeps left (opening r.result.stamp events) middle (d.held mid)) (open_ : IsOpen middle) (label : middle.label ≡ old.label) (limit : middle.limit ≡ old.limit)
-        (went : WentBy d middle.label middle.limit left (opening r.result.stamp events) [] start mid) where
+        (went : WentBy d middle.label middle.limit left (opening r.result.stamp events) [] start mid) (back : WereHeld d left (opening r.result.stamp events) (held_in middle.place) start mid) where
       abbrev opened : List Event
       opened = opening r.result.stamp events
 
       abbrev kept : HasKept d left opened start middle mid
-      kept = record { keeps = k; went = went }
+      kept = record { keeps = k; went = went; held = back }
 
       -- nothing changed
       still_kept : new ≡ middle → HasKept d left opened start new mid
@@ -341,16 +394,17 @@ module _ {D : Type 0} (d : DiskGhosts D) (left : Files) where
       not_taken DiskFault may fails = absurd may
 
       -- it is held, and nothing is written
-      taken : new.label ≡ middle.label → new.limit ≡ middle.limit → Keeps left (opened ++ Event.logged r ∷ []) new (d.held mid) → HasKept d left (opened ++ Event.logged r ∷ []) start new mid
-      taken name most done = kept_more start mid mid middle new name most opened (Event.logged r) kept
+      taken : new.label ≡ middle.label → new.limit ≡ middle.limit → Keeps left (opened ++ Event.logged r ∷ []) new (d.held mid) → held_in new.place ≡ held_in middle.place + 1 → HasKept d left (opened ++ Event.logged r ∷ []) start new mid
+      taken name most done more = kept_more start mid mid middle new name most opened (Event.logged r) kept
           (no_call d only_now mid (ComesBackTo (items_by opened ++ items_by (Event.logged r ∷ [])) (acknowledged_by opened) left)
           (λ image crash. comes_more (items_by opened) (items_by (Event.logged r ∷ [])) (acknowledged_by opened) left image (kept_comes left opened middle (d.held mid) k image crash)))
           done (λ other. absurd (other (logged_last opened r)))
+          (λ whole front held is many. held_behind d left opened (Event.logged r) (held_in middle.place) start mid back front held is (many ∙ more))
 
-      pub take_went : {T : Type 0} (result : Result T LogFault) → new.label ≡ middle.label → new.limit ≡ middle.limit → OnOk result (Keeps left (opened ++ Event.logged r ∷ []) new (d.held mid)) → IfErr result (TakeMayAnswer r middle new) → IfErr result (TakeFails k.stand middle.limit r)
+      pub take_went : {T : Type 0} (result : Result T LogFault) → new.label ≡ middle.label → new.limit ≡ middle.limit → OnOk result (Keeps left (opened ++ Event.logged r ∷ []) new (d.held mid)) → OnOk result (held_in new.place ≡ held_in middle.place + 1) → IfErr result (TakeMayAnswer r middle new) → IfErr result (TakeFails k.stand middle.limit r)
           → MatchResult result (λ _. HasKept d left (opened ++ Event.logged r ∷ []) start new mid) (HasNotLogged d left events r start old new mid)
-      take_went (Ok v) name most done may fails = taken name most done
-      take_went (Err e) name most done may fails = not_taken e may fails
+      take_went (Ok v) name most done more may fails = taken name most done more
+      take_went (Err e) name most done more may fails = not_taken e may fails
 
   -- ---- what a crash leaves
 

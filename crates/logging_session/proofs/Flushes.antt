@@ -18,10 +18,10 @@ use Rattle.logger_core.specs.Keeps.{Start}
 use Rattle.logger_core.specs.Meant.{Kept, IsLogger, Meant}
 use Rattle.logger_core.specs.Steps.{FlushStep, with_entry}
 use Rattle.logger_core.proofs.Holds.{holds_nothing}
-use Rattle.logging_session.specs.Events.{Event, items_by}
+use Rattle.logging_session.specs.Events.{Event, LeadFrom, items_by}
 use Rattle.logging_session.specs.Keeping.{AreApart, IsGoing, meant_of}
-use Rattle.logging_session.specs.Written.{Written, Flushes}
-use Rattle.logging_session.proofs.Events.{items_more, sure_flushed, sure_synced}
+use Rattle.logging_session.specs.Written.{Flushes, Stand, Written}
+use Rattle.logging_session.proofs.Events.{items_more, lead_more, sure_flushed, sure_synced}
 use Rattle.logging_session.proofs.Logged.{is_settled}
 use Rattle.logging_session.proofs.OneReason.{last_number}
 
@@ -72,12 +72,12 @@ contents_stay files new c d o is now step =
 
 -- ---- what is flushed goes on
 
-module _ (left : Files) (limit : ℕ) (events : List Event) (w : Written) (b now : HeldBack) (old held : Holdings) (g : IsGoing left limit events w b old) (limit_same : now.kept.limit ≡ b.kept.limit) (open_ : now.kept.closed ≡ false) (none : now.runs ≡ []) (planned : now.planned ≡ now.kept.ends)
+module _ {name : LabelFields} (left : Files) (limit : ℕ) (events : List Event) (w : Written) (b now : HeldBack) (old held : Holdings) (g : IsGoing name left limit events w b old) (lead : LeadFrom name limit left events (Stand.opened w)) (limit_same : now.kept.limit ≡ b.kept.limit) (open_ : now.kept.closed ≡ false) (none : now.runs ≡ []) (planned : now.planned ≡ now.kept.ends)
     (sure : IsVolumeSure now.kept.ends.volume held) where
   abbrev o : Meant
   o = meant_of g.first w g.later
 
-  pub flush_goes : IsFlushed o (written_back b).kept now.kept held → (new : Written) × Flushes w new × IsGoing left limit (events ++ Event.flushed ∷ []) new now held
+  pub flush_goes : IsFlushed o (written_back b).kept now.kept held → (new : Written) × Flushes w new × IsGoing name left limit (events ++ Event.flushed ∷ []) new now held
   flush_goes f =
       let same : no_entries f.new.contents ≡ no_entries w.contents = contents_stay w.files f.new.files w.contents f.new.contents _ g.is.stands.keeps.is f.is.at.stands.keeps.is f.step.is in
       let volumes : f.new.contents.volumes ≡ w.contents.volumes = ap (λ (c : ArchiveContents). c.volumes) same in
@@ -85,16 +85,17 @@ module _ (left : Files) (limit : ℕ) (events : List Event) (w : Written) (b now
       let was : EndsWhole w.files w.contents b.planned.volume = g.is.stands.keeps.last in
       let number : now.kept.ends.volume ≡ w.volume = last_number last.before was.before now.kept.ends.volume b.planned.volume last.items was.items (sym last.are ∙ volumes ∙ was.are) ∙ g.volume in
       let new : Written = record { files = f.new.files; contents = f.new.contents; volume = w.volume } in
-      let items : items_by (events ++ Event.flushed ∷ []) ≡ items_by events = items_more events Event.flushed ∙ append-nil (items_by events) in (
+      let items : items_by (events ++ Event.flushed ∷ []) ≡ items_by events = items_more events Event.flushed ∙ append-nil (items_by events) in
+      let flushes : Flushes w new = record {
+        step = subst (λ (n : ℕ). FlushStep w.files w.contents n f.new.files) g.volume f.step;
+        is = f.is.at.stands.keeps.is;
+        records = ap (λ (c : ArchiveContents). c.records) same;
+        items = f.items_same;
+        volume = refl;
+        last = subst (λ (n : ℕ). EndsWhole f.new.files f.new.contents n) number last;
+      } in (
         new,
-        record {
-          step = subst (λ (n : ℕ). FlushStep w.files w.contents n f.new.files) g.volume f.step;
-          is = f.is.at.stands.keeps.is;
-          records = ap (λ (c : ArchiveContents). c.records) same;
-          items = f.items_same;
-          volume = refl;
-          last = subst (λ (n : ℕ). EndsWhole f.new.files f.new.contents n) number last;
-        },
+        flushes,
         record {
           label = g.label;
           first = g.first;
@@ -111,13 +112,18 @@ module _ (left : Files) (limit : ℕ) (events : List Event) (w : Written) (b now
           items_are = f.items_same ∙ g.items_are ∙ ap (λ (xs : List Item). items_of g.first.contents.volumes ++ xs) (sym items);
           apart = subst (λ (xs : List Item). AreApart (items_of g.first.contents.volumes) xs) (sym items) g.apart;
           enough = omega (arith, f.all, ap length g.items_are, length-append (items_of g.first.contents.volumes) (items_by events), sure_flushed events);
+          front = events ++ Event.flushed ∷ [];
+          behind = sym (append-nil (events ++ Event.flushed ∷ []));
+          led = lead_more name limit (Stand.found left) events (Stand.opened w) Event.flushed (Stand.opened new) lead (new, flushes, refl);
+          last = flushes.last;
+          each = (refl, refl);
           settled = λ nothing. is_settled f.new now.kept.ends.volume held f.is.at.stands sure;
         },
       )
 
   -- ---- what is synced goes on
 
-  pub sync_goes : (l : IsLogger (all_acknowledged o) now.kept held) → now.kept ≡ counting_all (written_back b).kept → IsGoing left limit (events ++ Event.synced ∷ []) w now held
+  pub sync_goes : (l : IsLogger (all_acknowledged o) now.kept held) → now.kept ≡ counting_all (written_back b).kept → IsGoing name left limit (events ++ Event.synced ∷ []) w now held
   sync_goes l same =
       let items : items_by (events ++ Event.synced ∷ []) ≡ items_by events = items_more events Event.synced ∙ append-nil (items_by events) in
       record {
@@ -135,5 +141,10 @@ module _ (left : Files) (limit : ℕ) (events : List Event) (w : Written) (b now
         items_are = g.items_are ∙ ap (λ (xs : List Item). items_of g.first.contents.volumes ++ xs) (sym items);
         apart = subst (λ (xs : List Item). AreApart (items_of g.first.contents.volumes) xs) (sym items) g.apart;
         enough = omega (arith, ap length g.items_are, length-append (items_of g.first.contents.volumes) (items_by events), sure_synced events);
+        front = events ++ Event.synced ∷ [];
+        behind = sym (append-nil (events ++ Event.synced ∷ []));
+        led = lead_more name limit (Stand.found left) events (Stand.opened w) Event.synced (Stand.opened w) lead refl;
+        last = subst (λ (n : ℕ). EndsWhole w.files w.contents n) g.volume g.is.stands.keeps.last;
+        each = (refl, refl);
         settled = λ nothing. is_settled (all_acknowledged o) now.kept.ends.volume held l.at.stands sure;
       }

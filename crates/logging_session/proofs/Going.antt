@@ -2,7 +2,7 @@
 use Rattle.std.proofs.Common.{◌≡◌, ℕ, ◌+◌, ◌-◌, ◌≤◌, false, List, [], ◌∷◌, ◌++◌, length, take, min, refl, sym, ap, ap₂, ◌∙◌, subst, arith, length-append}
 use Rattle.std.specs.Prelude.{Contains}
 use Rattle.std.proofs.lemmas.List.Elements.{Contains-append_left}
-use Rattle.std.proofs.lemmas.List.{append_assoc, map-append, take-append-le, take_min}
+use Rattle.std.proofs.lemmas.List.{append-nil, append_assoc, map-append, take-append-le, take_min}
 use Rattle.pcp_base.specs.declared.file.FileId.TheVariants.{Meta, Index, Volume}
 use Rattle.pcp_base.specs.declared.result.Item.{Item}
 use Rattle.pcp_base.specs.declared.result.Item.TheVariants.{Sample}
@@ -11,6 +11,7 @@ use Rattle.pcp_model.specs.Archive.{ArchiveReading, Reads, items_of, scan}
 use Rattle.pcp_model.specs.Disk.{CrashImage, Files, Holdings, IsSettled, contents_of}
 use Rattle.pcp_model.specs.Frame.{frame}
 use Rattle.pcp_model.specs.LabelFields.{LabelFields}
+use Rattle.pcp_model.specs.Laws.{EndsWhole}
 use Rattle.pcp_model.specs.Payload.{payload, payload_length}
 use Rattle.pcp_model.specs.Recovered.{Recovers, recovered_reading}
 use Rattle.pcp_model.proofs.Lists.{each-append}
@@ -23,7 +24,7 @@ use Rattle.logger_core.specs.declared.fault.LogFault.TheVariants.{Closed, Large,
 use Rattle.logger_core.specs.Keeps.{Start}
 use Rattle.logger_core.specs.Laws.{Survives}
 use Rattle.logger_core.specs.LogSteps.{base_files, base_number, crosses, with_run}
-use Rattle.logger_core.specs.Grouping.{LogsAll, Told, samples_of}
+use Rattle.logger_core.specs.Grouping.{LogsAll, LogsOne, Told, samples_of}
 use Rattle.logger_core.specs.Held.{counts_of}
 use Rattle.logger_core.specs.Holding.{HeldBack, HoldsMore, IsHolding, written_back}
 use Rattle.logger_core.specs.Logging.{IsLoggable, IsRefused}
@@ -36,9 +37,9 @@ use Rattle.logger_core.proofs.Grouped.{samples_many}
 use Rattle.logger_core.proofs.HeldRuns.{runs_count}
 use Rattle.logger_core.proofs.Rests.{few_acknowledged, image_survives, survives_same, survives_with}
 use Rattle.logging_session.specs.ComingBack.{ComesBack, ComesBackTo, start_of}
-use Rattle.logging_session.specs.Events.{Event, acknowledged_by, items_by}
-use Rattle.logging_session.specs.Keeping.{AreApart, AreWhole, IsGoing, meant_of, told_of}
-use Rattle.logging_session.specs.Written.{EndsAre, Logs, OpensFound, Refuses, Report, Written}
+use Rattle.logging_session.specs.Events.{Event, LeadFrom, acknowledged_by, items_by, logged_all}
+use Rattle.logging_session.specs.Keeping.{AreApart, AreWhole, IsGoing, LogsEach, meant_of, told_of}
+use Rattle.logging_session.specs.Written.{EndsAre, Logs, OpensFound, Refuses, Report, Stand, Written}
 use Rattle.logging_session.proofs.ComeBack.{each_new, fewer, opened_comes, opened_items}
 use Rattle.logging_session.proofs.Events.{items_more, sure_logged}
 use Rattle.logging_session.proofs.Logged.{has_stamp}
@@ -76,7 +77,7 @@ module _ (left : Files) (l : LabelFields) (first : Written) (opens : OpensFound 
   abbrev found : List Item
   found = items_of first.contents.volumes
 
-  survivors_come : (items : List Item) (k a : ℕ) (image : Files) → AreApart found items → length found + k ≤ a → Survives (as_found first.files first.contents).start (found ++ items) a image → ComesBackTo items k left image
+  pub survivors_come : (items : List Item) (k a : ℕ) (image : Files) → AreApart found items → length found + k ≤ a → Survives (as_found first.files first.contents).start (found ++ items) a image → ComesBackTo items k left image
   survivors_come items k a image apart enough w = λ files r reads recovered.
       let v : Survives (as_found first.files first.contents).start (found ++ items) (length found + k) image = survives_same (as_found first.files first.contents).start (found ++ items) (found ++ items) a (length found + k) image refl w enough in
       opened_comes left files r reads recovered l first.files first.contents opens items k image v (each_new (as_found first.files first.contents).start items (length found + k) image v apart)
@@ -86,7 +87,7 @@ none_pending : (pending : List Told) → length pending ≡ 0 → pending ≡ []
 none_pending [] none = refl
 none_pending (t ∷ pending) none = absurd (omega (arith, none))
 
-module _ (left : Files) (limit : ℕ) (events : List Event) (w : Written) (b : HeldBack) (held : Holdings) (g : IsGoing left limit events w b held) where
+module _ {l : LabelFields} (left : Files) (limit : ℕ) (events : List Event) (w : Written) (b : HeldBack) (held : Holdings) (g : IsGoing l left limit events w b held) where
   -- what is written, and what will be once all is
   abbrev m : Meant
   m = meant_of g.first g.written g.acknowledged
@@ -148,8 +149,8 @@ module _ (left : Files) (limit : ℕ) (events : List Event) (w : Written) (b : H
   pub going_files : counts_of b.runs ≡ 0 → contents_of held ≡ w.files
   going_files none =
       let all : told_of g.pending ≡ [] = none_pending (told_of g.pending) (sym (runs_count g.written.contents.records b.kept.ends b.kept.limit b.runs (told_of g.pending) b.kept.records b.planned g.is.runs) ∙ none) in
-      let l : LogsAll m b.kept.ends.volume b.kept.limit [] o b.planned.volume = subst (λ (ts : List Told). LogsAll m b.kept.ends.volume b.kept.limit ts o b.planned.volume) all g.is.all in
-      fun_ext g.is.at.stands.written ∙ sym (ap (λ (n : Meant). n.files) l.0)
+      let logs : LogsAll m b.kept.ends.volume b.kept.limit [] o b.planned.volume = subst (λ (ts : List Told). LogsAll m b.kept.ends.volume b.kept.limit ts o b.planned.volume) all g.is.all in
+      fun_ext g.is.at.stands.written ∙ sym (ap (λ (n : Meant). n.files) logs.0)
 
 -- ---- what a logger keeps in numbers, but for what is acknowledged
 
@@ -181,10 +182,26 @@ module _ (records : List MetaRecord) (e : Ends) (n limit : ℕ) (answer : PmResu
 
 -- ---- holding
 
+logged_more : (reports : List Report) (r : Report) → logged_all (reports ++ r ∷ []) ≡ logged_all reports ++ Event.logged r ∷ []
+logged_more [] r = refl
+logged_more (q ∷ reports) r = ap (λ (es : List Event). Event.logged q ∷ es) (logged_more reports r)
+
+each_more : (limit : ℕ) (first w : Written) (k : ℕ) (reports : List Report) (last : Written) (all : ℕ) (r : Report) (new : Written) (now : ℕ) → LogsEach limit first w k reports last all → Logs limit r last new
+    → LogsOne (meant_of first last all) last.volume limit r.result r.facts (meant_of first new now) new.volume → LogsEach limit first w k (reports ++ r ∷ []) new now
+each_more limit first w k [] last all r new now each logs one = (
+  new,
+  now,
+  subst (λ (x : Written). Logs limit r x new) each.0 logs,
+  subst (λ (x : Written). LogsOne (meant_of first x k) x.volume limit r.result r.facts (meant_of first new now) new.volume) each.0
+      (subst (λ (n : ℕ). LogsOne (meant_of first last n) last.volume limit r.result r.facts (meant_of first new now) new.volume) each.1 one),
+  (refl, refl),
+)
+each_more limit first w k (q ∷ reports) last all r new now each logs one = (each.0, each.1, each.2, each.3, each_more limit first each.0 each.1 reports last all r new now each.4 logs one)
+
 told_more : (reports : List Report) (r : Report) → told_of (reports ++ r ∷ []) ≡ told_of reports ++ (r.result, r.facts) ∷ []
 told_more reports r = map-append (λ (x : Report). (x.result, x.facts)) reports (r ∷ [])
 
-module _ (left : Files) (limit : ℕ) (events : List Event) (r : Report) (w : Written) (b : HeldBack) (held : Holdings) (g : IsGoing left limit events w b held) where
+module _ {l : LabelFields} (left : Files) (limit : ℕ) (events : List Event) (r : Report) (w : Written) (b : HeldBack) (held : Holdings) (g : IsGoing l left limit events w b held) where
   abbrev a : Meant
   a = meant_of g.first w g.later
 
@@ -214,32 +231,37 @@ module _ (left : Files) (limit : ℕ) (events : List Event) (r : Report) (w : Wr
   is_new may = has_stamp w.contents b.planned.greatest (Sample r.result) g.is.ends.greatest may.later
 
   pub hold_goes : (now : HeldBack) → IsLoggable b.kept.records b.planned b.kept.limit r.result r.facts → HoldsMore (meant_of g.first g.written g.acknowledged) b now (told_of g.pending) r.result r.facts a held → now.kept.limit ≡ b.kept.limit → now.kept.closed ≡ false
-      → (new : Written) × Logs limit r w new × IsGoing left limit (events ++ Event.logged r ∷ []) new now held
+      → (new : Written) × Logs limit r w new × IsGoing l left limit (events ++ Event.logged r ∷ []) new now held
   hold_goes now may h limit_same open_ =
       let new : Written = record { files = h.next.files; contents = h.next.contents; volume = now.planned.volume } in
       let more : items_by (events ++ Event.logged r ∷ []) ≡ items_by events ++ Sample r.result ∷ [] = items_more events (Event.logged r) in
       let step = h.one.step in
-      let stands = h.is.stands.keeps in (
+      let stands = h.is.stands.keeps in
+      let logs : Logs limit r w new = record {
+        ends = all_ends;
+        ends_are = ends_are;
+        loggable = loggable_here may;
+        step = record {
+          greatest = step.greatest;
+          is_greatest = step.is_greatest;
+          missing = step.missing;
+          needed = step.needed;
+          crossing = step.crossing;
+          crosses_is = step.crosses_is ∙ ap₂ (λ (l n : ℕ). crosses l (length (w.files (Volume n))) (payload_length r.result + 8)) g.limit_is g.volume;
+          is = λ file. step.is file
+              ∙ ap (λ (n : ℕ). with_run (base_number step.crossing n) (framed_records step.missing) (frame (payload r.result)) (base_files step.crossing w.files w.contents n step.greatest) file) g.volume;
+        };
+        is = stands.is;
+        records = h.one.longer.records;
+        items = h.one.longer.items;
+        last = stands.last;
+      } in
+      let one : LogsOne a w.volume limit r.result r.facts (meant_of g.first new h.next.acknowledged) new.volume =
+      subst (λ (n : ℕ). LogsOne a n limit r.result r.facts (meant_of g.first new h.next.acknowledged) new.volume) g.volume
+      (subst (λ (n : ℕ). LogsOne a b.planned.volume n r.result r.facts (meant_of g.first new h.next.acknowledged) new.volume) g.limit_is
+      (subst (λ (s : Start). LogsOne a b.planned.volume b.kept.limit r.result r.facts (record { start = s; files = h.next.files; contents = h.next.contents; acknowledged = h.next.acknowledged }) now.planned.volume) h.one.started h.one)) in (
         new,
-        record {
-          ends = all_ends;
-          ends_are = ends_are;
-          loggable = loggable_here may;
-          step = record {
-            greatest = step.greatest;
-            is_greatest = step.is_greatest;
-            missing = step.missing;
-            needed = step.needed;
-            crossing = step.crossing;
-            crosses_is = step.crosses_is ∙ ap₂ (λ (l n : ℕ). crosses l (length (w.files (Volume n))) (payload_length r.result + 8)) g.limit_is g.volume;
-            is = λ file. step.is file
-                ∙ ap (λ (n : ℕ). with_run (base_number step.crossing n) (framed_records step.missing) (frame (payload r.result)) (base_files step.crossing w.files w.contents n step.greatest) file) g.volume;
-          };
-          is = stands.is;
-          records = h.one.longer.records;
-          items = h.one.longer.items;
-          last = stands.last;
-        },
+        logs,
         record {
           label = g.label;
           first = g.first;
@@ -257,13 +279,18 @@ module _ (left : Files) (limit : ℕ) (events : List Event) (r : Report) (w : Wr
           items_are = h.one.longer.items ∙ with_new left limit events w b held g (Sample r.result) ∙ ap (λ (xs : List Item). items_of g.first.contents.volumes ++ xs) (sym more);
           apart = subst (λ (xs : List Item). AreApart (items_of g.first.contents.volumes) xs) (sym more) (apart_too left limit events w b held g (Sample r.result) (is_new may));
           enough = omega (arith, g.enough, sure_logged events r);
+          front = g.front;
+          behind = ap (λ (es : List Event). es ++ Event.logged r ∷ []) g.behind ∙ append_assoc g.front (logged_all g.pending) (Event.logged r ∷ []) ∙ ap (λ (es : List Event). g.front ++ es) (sym (logged_more g.pending r));
+          led = g.led;
+          last = g.last;
+          each = each_more limit g.first g.written g.acknowledged g.pending w g.later r new h.next.acknowledged g.each logs one;
           settled = λ none. absurd (omega (arith, ap length none, ap length more, length-append (items_by events) (Sample r.result ∷ [])));
         },
       )
 
 -- ---- writing
 
-module _ (left : Files) (limit : ℕ) (events : List Event) (w : Written) (b : HeldBack) (old : Holdings) (g : IsGoing left limit events w b old) where
+module _ {l : LabelFields} (left : Files) (limit : ℕ) (events : List Event) (w : Written) (b : HeldBack) (old : Holdings) (g : IsGoing l left limit events w b old) where
   abbrev n : Meant
   n = meant_of g.first g.written g.acknowledged
 
@@ -275,8 +302,8 @@ module _ (left : Files) (limit : ℕ) (events : List Event) (w : Written) (b : H
       let pending : length (told_of g.pending) ≡ 0 = omega (arith, few, g.enough, samples_many (told_of g.pending), ap length (sym g.is.items_are ∙ g.items_are), length-append (items_in n) (samples_of (told_of g.pending)), length-append found (items_by events), ap length none) in
       no_runs g.written.contents.records b.kept.ends b.kept.limit b.runs (told_of g.pending) b.kept.records b.planned g.is.runs (none_pending (told_of g.pending) pending)
 
-  pub write_goes : (now : HeldBack) (held : Holdings) → IsHolding (meant_of g.first w g.later) now [] (meant_of g.first w g.later) held → now ≡ written_back b → (b.runs ≡ [] → held ≡ old) → IsGoing left limit events w now held
-  write_goes now held is same idle = record {
+  pub write_goes : (now : HeldBack) (held : Holdings) → LeadFrom l limit left events (Stand.opened w) → IsHolding (meant_of g.first w g.later) now [] (meant_of g.first w g.later) held → now ≡ written_back b → (b.runs ≡ [] → held ≡ old) → IsGoing l left limit events w now held
+  write_goes now held lead is same idle = record {
     label = g.label;
     first = g.first;
     opens = g.opens;
@@ -291,5 +318,10 @@ module _ (left : Files) (limit : ℕ) (events : List Event) (w : Written) (b : H
     items_are = g.items_are;
     apart = g.apart;
     enough = omega (arith, g.enough, g.is.still);
+    front = events;
+    behind = sym (append-nil events);
+    led = lead;
+    last = subst (λ (k : ℕ). EndsWhole w.files w.contents k) g.volume g.is.stands.keeps.last;
+    each = (refl, refl);
     settled = λ none. subst IsSettled (sym (idle (none_held none))) (g.settled none);
   }

@@ -4,10 +4,13 @@ pub mod Course
 pub mod Events
 pub mod Flushes
 pub mod Going
+pub mod HeldEvents
 pub mod Logged
 pub mod Logging
 pub mod OneReason
+pub mod OneChain
 pub mod Openings
+pub mod Passing
 pub mod Placed
 pub mod Recovering
 pub mod Sessions

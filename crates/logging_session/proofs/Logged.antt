@@ -1,4 +1,4 @@
--- What is left where a result is logged over an archive that was opened.
+-- What may be logged stands nowhere in the archive yet, and where its volume is sure all is settled.
 use Rattle.std.proofs.Common.{◌≡◌, ◌≢◌, inl, ⊎_elim, ℕ, ◌≤◌, Bool, true, false, [], Option, None, Some, refl, sym, ap, ◌∙◌, subst, arith}
 use Rattle.std.specs.Prelude.{Contains}
 use Rattle.pcp_base.specs.Time.{Moment, microseconds}

@@ -8,6 +8,7 @@ use Rattle.pcp_base.specs.declared.result.Item.{Item}
 use Rattle.pcp_base.specs.declared.result.Item.TheVariants.{Sample}
 use Rattle.pcp_model.specs.Archive.{ArchiveReading, Reads, items_of, scan}
 use Rattle.pcp_model.specs.Disk.{CrashImage, Files, Holdings, IsSettled, contents_of}
+use Rattle.pcp_model.specs.LabelFields.{LabelFields}
 use Rattle.pcp_model.specs.Recovered.{Recovers}
 use Rattle.pcp_outside.specs.declared.disk.Disk.{Ghosts as DiskGhosts}
 use Rattle.pcp_outside.specs.Causes.{shown_count}
@@ -63,18 +64,18 @@ pub record StandsUntouched (left : Files) (events : List Event) (stand : Stand) 
   pub untouched : IsUntouched left events files held
 
 -- a logger goes on
-pub record StandsOpen (left : Files) (limit : ℕ) (events : List Event) (stand : Stand) (b : HeldBack) (held : Holdings) : Type 0 where
+pub record StandsOpen (l : LabelFields) (left : Files) (limit : ℕ) (events : List Event) (stand : Stand) (b : HeldBack) (held : Holdings) : Type 0 where
   pub w : Written
   pub is : stand ≡ Stand.opened w
-  pub going : IsGoing left limit events w b held
+  pub going : IsGoing l left limit events w b held
 
-found_stands : (left : Files) (limit : ℕ) (events : List Event) (stand : Stand) (archive : Archive) (held : Holdings) → IsPlace left limit events stand (Found archive) held → IsLeft archive held × StandsUntouched left events stand held
-found_stands left limit events (Stand.found files) archive held is = (is.0, record { files = files; is = refl; untouched = is.1 })
-found_stands left limit events (Stand.opened w) archive held is = absurd is
+found_stands : (l : LabelFields) (left : Files) (limit : ℕ) (events : List Event) (stand : Stand) (archive : Archive) (held : Holdings) → IsPlace l left limit events stand (Found archive) held → IsLeft archive held × StandsUntouched left events stand held
+found_stands l left limit events (Stand.found files) archive held is = (is.0, record { files = files; is = refl; untouched = is.1 })
+found_stands l left limit events (Stand.opened w) archive held is = absurd is
 
-open_stands : (left : Files) (limit : ℕ) (events : List Event) (stand : Stand) (b : HeldBack) (held : Holdings) → IsPlace left limit events stand (Open b) held → StandsOpen left limit events stand b held
-open_stands left limit events (Stand.found files) b held is = absurd is
-open_stands left limit events (Stand.opened w) b held is = record { w = w; is = refl; going = is }
+open_stands : (l : LabelFields) (left : Files) (limit : ℕ) (events : List Event) (stand : Stand) (b : HeldBack) (held : Holdings) → IsPlace l left limit events stand (Open b) held → StandsOpen l left limit events stand b held
+open_stands l left limit events (Stand.found files) b held is = absurd is
+open_stands l left limit events (Stand.opened w) b held is = record { w = w; is = refl; going = is }
 
 -- what is untouched comes back
 untouched_comes : (left : Files) (events : List Event) (files : Files) (held : Holdings) → IsUntouched left events files held → (image : Files) → ComesBackTo [] 0 (contents_of held) image → ComesBackBy events left image
@@ -82,7 +83,7 @@ untouched_comes left events files held u image comes =
     subst (λ (es : List Event). ComesBackBy es left image) (sym u.none) (subst (λ (f : Files). ComesBackTo [] 0 f image) u.stands comes)
 
 -- why a result isn't held
-module _ (left : Files) (limit : ℕ) (events : List Event) (r : Report) (stand : Stand) (b : HeldBack) (old : Holdings) (o : StandsOpen left limit events stand b old) where
+module _ {l : LabelFields} (left : Files) (limit : ℕ) (events : List Event) (r : Report) (stand : Stand) (b : HeldBack) (old : Holdings) (o : StandsOpen l left limit events stand b old) where
   pub take_fails : (e : LogFault) → HoldMayAnswer b r.result r.facts e → TakeFails stand limit r e
   take_fails Closed may = not_closed b.kept.closed may o.going.open_
   take_fails (Large bytes) may = (o.w, o.is, turned_refuses left limit events r o.w b old o.going (Large bytes) may.1)
@@ -93,14 +94,14 @@ module _ (left : Files) (limit : ℕ) (events : List Event) (r : Report) (stand 
   take_fails DiskFault may = absurd may.1
 
 module _ (left : Files) (events : List Event) (s : Carried) (old : Holdings) (k : Keeps left events s old) where
-  at_place : (p : Place) → s.place ≡ p → IsPlace left s.limit events k.stand p old
-  at_place p is = subst (λ (q : Place). IsPlace left s.limit events k.stand q old) is k.place
+  at_place : (p : Place) → s.place ≡ p → IsPlace s.label left s.limit events k.stand p old
+  at_place p is = subst (λ (q : Place). IsPlace s.label left s.limit events k.stand q old) is k.place
 
   pub when_found : (archive : Archive) → s.place ≡ Found archive → IsLeft archive old × StandsUntouched left events k.stand old
-  when_found archive is = found_stands left s.limit events k.stand archive old (at_place (Found archive) is)
+  when_found archive is = found_stands s.label left s.limit events k.stand archive old (at_place (Found archive) is)
 
-  pub when_open : (b : HeldBack) → s.place ≡ Open b → StandsOpen left s.limit events k.stand b old
-  when_open b is = open_stands left s.limit events k.stand b old (at_place (Open b) is)
+  pub when_open : (b : HeldBack) → s.place ≡ Open b → StandsOpen s.label left s.limit events k.stand b old
+  when_open b is = open_stands s.label left s.limit events k.stand b old (at_place (Open b) is)
 
   pub when_opened_leads : (b : HeldBack) → (is : s.place ≡ Open b) → LeadFrom s.label s.limit left events (Stand.opened (when_open b is).w)
   when_opened_leads b is = subst (λ (t : Stand). LeadFrom s.label s.limit left events t) (when_open b is).is k.lead
@@ -119,9 +120,6 @@ module _ (left : Files) (events : List Event) (s : Carried) (old : Holdings) (k 
   opens_no_more b is stamp =
       subst (λ (es : List Event). Keeps left es s old) (sym (opening_is s.label s.limit left events (when_open b is).w stamp (when_opened_leads b is))) k
 
-  pub same_kept : (t : Carried) (held : Holdings) → t ≡ s → held ≡ old → Keeps left events t held
-  same_kept t held same still = subst (λ (c : Carried). Keeps left events c held) (sym same) (subst (λ (h : Holdings). Keeps left events s h) (sym still) k)
-
   -- ---- opening
 
   pub found_comes : (archive : Archive) → s.place ≡ Found archive → (image : Files) → ComesBackTo [] 0 (contents_of old) image → ComesBackBy events left image
@@ -133,7 +131,7 @@ module _ (left : Files) (events : List Event) (s : Carried) (old : Holdings) (k 
       record {
         stand = k.stand;
         lead = k.lead;
-        place = subst (λ (t : Stand). IsPlace left s.limit events t Lost held) (sym u.is) (subst (λ (h : Holdings). IsUntouched left events u.files h) (sym still) u.untouched);
+        place = subst (λ (t : Stand). IsPlace s.label left s.limit events t Lost held) (sym u.is) (subst (λ (h : Holdings). IsUntouched left events u.files h) (sym still) u.untouched);
         counted = k.counted;
       }
 
@@ -159,6 +157,11 @@ module _ (left : Files) (events : List Event) (s : Carried) (old : Holdings) (k 
           items_are = sym (append-nil (items_of o.contents.volumes));
           apart = tt;
           enough = omega arith;
+          front = Event.opened stamp ∷ [];
+          behind = refl;
+          led = (Stand.opened w, (w, (o.opens, o.is.at.stands.keeps.last), refl), refl);
+          last = o.is.at.stands.keeps.last;
+          each = (refl, refl);
           settled = λ no_items. left_settled held o.sure;
         };
         counted = k.counted ∙ ap (λ (es : List Event). shown_count (length (items_by es))) none;
@@ -178,9 +181,9 @@ module _ (left : Files) (events : List Event) (s : Carried) (old : Holdings) (k 
       → ((m : Meant) (pending : List Told) (o : Meant) → IsHolding m b pending o old → HoldsMore m b now pending r.result r.facts o old)
       → now.kept.limit ≡ b.kept.limit → now.kept.closed ≡ false → n ≡ shown_count (s.logged + 1) → Keeps left (events ++ Event.logged r ∷ []) (record { label = s.label; limit = s.limit; logged = n; place = Open now }) old
   holds r b now n is may hold limit_same open_ count =
-      let o : StandsOpen left s.limit events k.stand b old = when_open b is in
-      let g : IsGoing left s.limit events o.w b old = o.going in
-      let goes : (new : Written) × Logs s.limit r o.w new × IsGoing left s.limit (events ++ Event.logged r ∷ []) new now old =
+      let o : StandsOpen s.label left s.limit events k.stand b old = when_open b is in
+      let g : IsGoing s.label left s.limit events o.w b old = o.going in
+      let goes : (new : Written) × Logs s.limit r o.w new × IsGoing s.label left s.limit (events ++ Event.logged r ∷ []) new now old =
       hold_goes left s.limit events r o.w b old g now may (hold (meant_of g.first g.written g.acknowledged) (told_of g.pending) (meant_of g.first o.w g.later) g.is) limit_same open_ in
       record {
         stand = Stand.opened goes.0;
@@ -193,12 +196,12 @@ module _ (left : Files) (events : List Event) (s : Carried) (old : Holdings) (k 
 
   pub writes : (b now : HeldBack) (held : Holdings) → (is : s.place ≡ Open b) → ((m o : Meant) (pending : List Told) → IsHolding m b pending o old → IsHolding o now [] o held) → now ≡ written_back b → (b.runs ≡ [] → held ≡ old) → Keeps left events (with_place s (Open now)) held
   writes b now held is write same idle =
-      let o : StandsOpen left s.limit events k.stand b old = when_open b is in
-      let g : IsGoing left s.limit events o.w b old = o.going in
+      let o : StandsOpen s.label left s.limit events k.stand b old = when_open b is in
+      let g : IsGoing s.label left s.limit events o.w b old = o.going in
       record {
         stand = Stand.opened o.w;
         lead = when_opened_leads b is;
-        place = write_goes left s.limit events o.w b old g now held (write (meant_of g.first g.written g.acknowledged) (meant_of g.first o.w g.later) (told_of g.pending) g.is) same idle;
+        place = write_goes left s.limit events o.w b old g now held (when_opened_leads b is) (write (meant_of g.first g.written g.acknowledged) (meant_of g.first o.w g.later) (told_of g.pending) g.is) same idle;
         counted = k.counted;
       }
 
@@ -210,7 +213,7 @@ module _ (left : Files) (events : List Event) (s : Carried) (old : Holdings) (k 
   -- ---- making sure
 
   module _ (b now : HeldBack) (held : Holdings) (is : s.place ≡ Open b) (limit_same : now.kept.limit ≡ b.kept.limit) (open_ : now.kept.closed ≡ false) (none : now.runs ≡ []) (planned : now.planned ≡ now.kept.ends) (sure : IsVolumeSure now.kept.ends.volume held) where
-    abbrev o : StandsOpen left s.limit events k.stand b old
+    abbrev o : StandsOpen s.label left s.limit events k.stand b old
     o = when_open b is
 
     abbrev last : Meant
@@ -218,8 +221,8 @@ module _ (left : Files) (events : List Event) (s : Carried) (old : Holdings) (k 
 
     flushes : IsFlushed last (written_back b).kept now.kept held → Keeps left (behind events Event.flushed) (with_place s (Open now)) held
     flushes flush =
-        let goes : (new : Written) × Flushes o.w new × IsGoing left s.limit (events ++ Event.flushed ∷ []) new now held =
-        flush_goes left s.limit events o.w b now old held o.going limit_same open_ none planned sure flush in
+        let goes : (new : Written) × Flushes o.w new × IsGoing s.label left s.limit (events ++ Event.flushed ∷ []) new now held =
+        flush_goes left s.limit events o.w b now old held o.going (when_opened_leads b is) limit_same open_ none planned sure flush in
         let lead = when_opened_leads b is in
         subst (λ (es : List Event). Keeps left es (with_place s (Open now)) held) (sym (behind_is s.label s.limit left events o.w Event.flushed lead)) record {
           stand = Stand.opened goes.0;
@@ -234,7 +237,7 @@ module _ (left : Files) (events : List Event) (s : Carried) (old : Holdings) (k 
         subst (λ (es : List Event). Keeps left es (with_place s (Open now)) held) (sym (behind_is s.label s.limit left events o.w Event.synced lead)) record {
           stand = Stand.opened o.w;
           lead = lead_more s.label s.limit (Stand.found left) events (Stand.opened o.w) Event.synced (Stand.opened o.w) lead refl;
-          place = sync_goes left s.limit events o.w b now old held o.going limit_same open_ none planned sure sync same;
+          place = sync_goes left s.limit events o.w b now old held o.going (when_opened_leads b is) limit_same open_ none planned sure sync same;
           counted = omega (arith, k.counted, ap length (items_more events Event.synced), length-append (items_by events) []);
         }
 
@@ -269,8 +272,8 @@ batch_comes d left events s disk after k b is run =
 at_least_none : (events : List Event) (left files image : Files) (r : ArchiveReading) → ComesBack (start_of files r left) (scan r ++ items_by events) (length (scan r) + acknowledged_by events) image → ComesBack (start_of files r left) (scan r ++ items_by events) 0 image
 at_least_none events left files image r comes = fewer (start_of files r left) (scan r ++ items_by events) (length (scan r) + acknowledged_by events) 0 image (omega arith) comes
 
-module _ (left : Files) (limit : ℕ) (events : List Event) (held : Holdings) where
-  place_comes : (stand : Stand) (place : Place) → IsPlace left limit events stand place held → (image : Files) → CrashImage held image → ComesBackBy events left image
+module _ (l : LabelFields) (left : Files) (limit : ℕ) (events : List Event) (held : Holdings) where
+  place_comes : (stand : Stand) (place : Place) → IsPlace l left limit events stand place held → (image : Files) → CrashImage held image → ComesBackBy events left image
   place_comes (Stand.found files) (Found archive) is image crash = untouched_comes left events files held is.1 image (standing_comes held [] image (same_files held is.1.sure image crash))
   place_comes (Stand.found files) Lost is image crash = untouched_comes left events files held is image (standing_comes held [] image (same_files held is.sure image crash))
   place_comes (Stand.found files) (Open b) is image crash = absurd is
@@ -280,7 +283,7 @@ module _ (left : Files) (limit : ℕ) (events : List Event) (held : Holdings) wh
   place_comes (Stand.opened w) Lost is image crash = absurd is
   place_comes (Stand.opened w) (Failed lost) is image crash = absurd is
 
-  place_counts : (stand : Stand) (place : Place) → IsPlace left limit events stand place held → (files image : Files) (r : ArchiveReading) → CrashImage held image → Reads files r → Recovers files r left
+  place_counts : (stand : Stand) (place : Place) → IsPlace l left limit events stand place held → (files image : Files) (r : ArchiveReading) → CrashImage held image → Reads files r → Recovers files r left
       → ComesBack (start_of files r left) (scan r ++ items_by events) (sure_in place) image
   place_counts (Stand.found f) (Found archive) is files image r crash reads recovered = at_least_none events left files image r (place_comes (Stand.found f) (Found archive) is image crash files r reads recovered)
   place_counts (Stand.found f) Lost is files image r crash reads recovered = at_least_none events left files image r (place_comes (Stand.found f) Lost is image crash files r reads recovered)
@@ -291,7 +294,7 @@ module _ (left : Files) (limit : ℕ) (events : List Event) (held : Holdings) wh
   place_counts (Stand.opened w) Lost is files image r crash reads recovered = absurd is
   place_counts (Stand.opened w) (Failed lost) is files image r crash reads recovered = absurd is
 
-  place_files : (stand : Stand) (place : Place) → IsPlace left limit events stand place held → held_in place ≡ 0 → contents_of held ≡ files_of stand
+  place_files : (stand : Stand) (place : Place) → IsPlace l left limit events stand place held → held_in place ≡ 0 → contents_of held ≡ files_of stand
   place_files (Stand.found files) (Found archive) is none = is.1.stands ∙ sym is.1.same
   place_files (Stand.found files) Lost is none = is.stands ∙ sym is.same
   place_files (Stand.found files) (Open b) is none = absurd is
@@ -301,7 +304,7 @@ module _ (left : Files) (limit : ℕ) (events : List Event) (held : Holdings) wh
   place_files (Stand.opened w) Lost is none = absurd is
   place_files (Stand.opened w) (Failed lost) is none = absurd is
 
-  place_whole : (stand : Stand) (place : Place) → IsPlace left limit events stand place held → AreWhole left → AreWhole (contents_of held)
+  place_whole : (stand : Stand) (place : Place) → IsPlace l left limit events stand place held → AreWhole left → AreWhole (contents_of held)
   place_whole (Stand.found files) (Found archive) is whole = subst AreWhole (sym is.1.stands) whole
   place_whole (Stand.found files) Lost is whole = subst AreWhole (sym is.stands) whole
   place_whole (Stand.found files) (Open b) is whole = absurd is
@@ -311,7 +314,7 @@ module _ (left : Files) (limit : ℕ) (events : List Event) (held : Holdings) wh
   place_whole (Stand.opened w) Lost is whole = absurd is
   place_whole (Stand.opened w) (Failed lost) is whole = absurd is
 
-  place_settled : (stand : Stand) (place : Place) → IsPlace left limit events stand place held → items_by events ≡ [] → IsSettled held
+  place_settled : (stand : Stand) (place : Place) → IsPlace l left limit events stand place held → items_by events ≡ [] → IsSettled held
   place_settled (Stand.found files) (Found archive) is none = left_settled held is.1.sure
   place_settled (Stand.found files) Lost is none = left_settled held is.sure
   place_settled (Stand.found files) (Open b) is none = absurd is
@@ -322,7 +325,7 @@ module _ (left : Files) (limit : ℕ) (events : List Event) (held : Holdings) wh
   place_settled (Stand.opened w) (Failed lost) is none = absurd is
 
   -- nothing that was logged is held where nothing was logged
-  place_holds_none : (stand : Stand) (place : Place) → IsPlace left limit events stand place held → items_by events ≡ [] → held_in place ≡ 0
+  place_holds_none : (stand : Stand) (place : Place) → IsPlace l left limit events stand place held → items_by events ≡ [] → held_in place ≡ 0
   place_holds_none (Stand.found files) (Found archive) is none = refl
   place_holds_none (Stand.found files) Lost is none = refl
   place_holds_none (Stand.found files) (Open b) is none = absurd is
@@ -338,25 +341,25 @@ no_item (x ∷ items) none = absurd (omega (arith, none))
 
 module _ (left : Files) (events : List Event) (s : Carried) (held : Holdings) (k : Keeps left events s held) where
   pub kept_comes : (image : Files) → CrashImage held image → ComesBackBy events left image
-  kept_comes image crash = place_comes left s.limit events held k.stand s.place k.place image crash
+  kept_comes image crash = place_comes s.label left s.limit events held k.stand s.place k.place image crash
 
   pub kept_counts : (files image : Files) (r : ArchiveReading) → CrashImage held image → Reads files r → Recovers files r left → ComesBack (start_of files r left) (scan r ++ items_by events) (sure_in s.place) image
-  kept_counts files image r crash reads recovered = place_counts left s.limit events held k.stand s.place k.place files image r crash reads recovered
+  kept_counts files image r crash reads recovered = place_counts s.label left s.limit events held k.stand s.place k.place files image r crash reads recovered
 
   pub kept_files : held_in s.place ≡ 0 → (file : FileId) → contents_of held file ≡ files_of k.stand file
-  kept_files none file = ap (λ (f : Files). f file) (place_files left s.limit events held k.stand s.place k.place none)
+  kept_files none file = ap (λ (f : Files). f file) (place_files s.label left s.limit events held k.stand s.place k.place none)
 
   pub kept_whole : AreWhole left → AreWhole (contents_of held)
-  kept_whole whole = place_whole left s.limit events held k.stand s.place k.place whole
+  kept_whole whole = place_whole s.label left s.limit events held k.stand s.place k.place whole
 
   pub kept_holds_none : items_by events ≡ [] → held_in s.place ≡ 0
-  kept_holds_none none = place_holds_none left s.limit events held k.stand s.place k.place none
+  kept_holds_none none = place_holds_none s.label left s.limit events held k.stand s.place k.place none
 
   pub kept_none : s.logged ≡ 0 → items_by events ≡ []
   kept_none none = no_item (items_by events) (sym k.counted ∙ none)
 
   pub kept_settled : s.logged ≡ 0 → IsSettled held
-  kept_settled none = place_settled left s.limit events held k.stand s.place k.place (kept_none none)
+  kept_settled none = place_settled s.label left s.limit events held k.stand s.place k.place (kept_none none)
 
   pub kept_some : (s.logged ≡ 0 → ⊥) → length (items_by events) ≡ 0 → ⊥
   kept_some some none = some (k.counted ∙ ap shown_count none)

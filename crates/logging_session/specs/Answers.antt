@@ -3,13 +3,18 @@ use Rattle.std.specs.Prelude.{◌≡◌, ◌⊎◌, ℕ, ◌+◌, ◌≤◌, Boo
 use Rattle.pcp_model.specs.Disk.{Files, Holdings}
 use Rattle.pcp_model.specs.Payload.{payload_length}
 use Rattle.pcp_outside.specs.Causes.{Rose, shown_count}
+use Rattle.pcp_outside.specs.declared.disk.Disk.{Ghosts as DiskGhosts}
 use Rattle.logger_core.specs.declared.ends.Ends.{Ends}
 use Rattle.logger_core.specs.declared.fault.LogFault.{LogFault}
 use Rattle.logger_core.specs.declared.fault.LogFault.TheVariants.{Closed, Large, NotLater, Changed, Full, NoMemory, DiskFault}
 use Rattle.logger_core.specs.Going.{IsFlushed, all_acknowledged, counting_all}
+use Rattle.logger_core.specs.Grouping.{Told}
+use Rattle.logger_core.specs.Held.{counts_of}
+use Rattle.logger_core.specs.Holding.{HeldBack}
 use Rattle.logger_core.specs.Logging.{IsLoggable, IsRefused}
 use Rattle.logger_core.specs.LogSteps.{crosses}
 use Rattle.logger_core.specs.Meant.{IsLogger, Kept, Meant}
+use Rattle.logger_core.specs.Passing.{HasPassedRuns}
 use Rattle.logging_session.specs.declared.place.Place.{Place}
 use Rattle.logging_session.specs.declared.place.Place.TheVariants.{Failed, Found, Open}
 use Rattle.logging_session.specs.ComingBack.{ComesBackTo}
@@ -96,6 +101,12 @@ abbrev pub IsMadeSure : Bool → Meant → Kept → Kept → Holdings → Type 0
 IsMadeSure true m old now held = IsFlushed m old now held
 IsMadeSure false m old now held = IsLogger (all_acknowledged m) now held × (now ≡ counting_all old)
 
+-- Where the disk failed so many of the results that were held are lost: at some moment it held exactly what the others lead to.
+pub record HasPassedBut {D : Type 0} (d : DiskGhosts D) (m : Meant) (b : HeldBack) (pending : List Told) (lost : ℕ) (old new : D) : Type 0 where
+  pub written : ℕ
+  pub others : written + lost ≡ counts_of b.runs
+  pub passed : HasPassedRuns d m b pending written old new
+
 -- ---- the steps of `log`
 
 -- the archive is opened, where it wasn't
@@ -110,7 +121,7 @@ abbrev pub CountsAll : Place → Type 0
 CountsAll (Open b) = (b.planned ≡ b.kept.ends) × (b.kept.ends.acknowledged ≡ b.kept.ends.logged)
 CountsAll place = Unit {0}
 
--- and then is handed the result
+-- and then judges and holds the result
 abbrev pub TakeMayAnswer : Report → Carried → Carried → LogFault → Type 0
 TakeMayAnswer r old new Closed = ⊥
 TakeMayAnswer r old new DiskFault = ⊥

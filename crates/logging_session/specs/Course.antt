@@ -1,5 +1,5 @@
 -- How a disk goes on with a session, event by event: what it holds behind each of them, and what a crash leaves from then on.
-use Rattle.std.specs.Prelude.{◌≡◌, ◌⊎◌, ℕ, List, [], ◌++◌}
+use Rattle.std.specs.Prelude.{◌≡◌, ◌⊎◌, ℕ, List, [], ◌++◌, length}
 use Rattle.pcp_base.specs.declared.file.FileId.{FileId}
 use Rattle.pcp_base.specs.declared.result.Item.{Item}
 use Rattle.pcp_model.specs.Disk.{Files, contents_of}
@@ -9,8 +9,8 @@ use Rattle.pcp_outside.specs.declared.disk.Disk.{Ghosts as DiskGhosts}
 use Rattle.logger_core.specs.declared.fault.LogFault.{LogFault}
 use Rattle.logger_core.specs.declared.fault.LogFault.TheVariants.{Closed, Large, NotLater, Changed, Full, NoMemory, DiskFault}
 use Rattle.logging_session.specs.ComingBack.{ComesBackTo}
-use Rattle.logging_session.specs.Events.{EndsLogged, Event, LeadFrom, acknowledged_by, items_by, opening}
-use Rattle.logging_session.specs.Keeping.{Carried, IsClosed, Keeps}
+use Rattle.logging_session.specs.Events.{EndsLogged, Event, LeadFrom, acknowledged_by, items_by, logged_all, opening}
+use Rattle.logging_session.specs.Keeping.{Carried, IsClosed, Keeps, held_in, lost_in}
 use Rattle.logging_session.specs.Written.{Refuses, Report, Stand, Written, files_of}
 
 -- over what recovery left these events lead to these files
@@ -33,10 +33,25 @@ module _ {D : Type 0} (d : DiskGhosts D) (l : LabelFields) (limit : ℕ) (left :
   abbrev pub WentBy : List Event → List Item → D → D → Type 0
   WentBy events more old new = (front rest : List Event) → events ≡ front ++ rest → (EndsLogged front → ⊥) → HasPassed front (items_by events ++ more) old new
 
+-- Of the results that these events logged, so many of the last are held and weren't on their way: a crash since then leaves the first ones of
+-- the items before them.
+abbrev pub WereHeld : {D : Type 0} → DiskGhosts D → Files → List Event → ℕ → D → D → Type 0
+WereHeld d left events n start disk = (front : List Event) (held : List Report) → events ≡ front ++ logged_all held → length held ≡ n → LeavesOnly d.moment d.left_since start disk (ComesBackTo (items_by front) 0 left)
+
 -- what a session keeps, and how the disk came to it from that moment on
 pub record HasKept {D : Type 0} (d : DiskGhosts D) (left : Files) (events : List Event) (start : D) (s : Carried) (disk : D) : Type 0 where
   pub keeps : Keeps left events s (d.held disk)
   pub went : WentBy d s.label s.limit left events [] start disk
+  pub held : WereHeld d left events (held_in s.place) start disk
+
+-- Where the disk failed it held, at some moment, exactly what the events lead to without the last results that they logged, as many as are
+-- lost.
+pub record HasPassedHeld {D : Type 0} (d : DiskGhosts D) (left : Files) (events : List Event) (start : D) (s : Carried) (disk : D) : Type 0 where
+  pub done : List Event
+  pub lost : List Report
+  pub is : events ≡ done ++ logged_all lost
+  pub many : length lost ≡ lost_in s.place
+  pub passed : HasPassed d s.label s.limit left done (items_by events) start disk
 
 module _ {D : Type 0} (d : DiskGhosts D) (left : Files) (events : List Event) (r : Report) (start : D) (old new : Carried) (disk : D) where
   -- the archive was opened for the result, and turns it away

@@ -1,6 +1,6 @@
 -- What a session keeps of its archive, and what the disk then holds: what recovery left, until it is opened, and from then on a logger
 -- of what was opened, with the results that it holds to be written.
-use Rattle.std.specs.Prelude.{◌≡◌, ◌⊎◌, ℕ, ◌+◌, ◌≤◌, false, List, [], ◌++◌, length, map, Contains, None}
+use Rattle.std.specs.Prelude.{◌≡◌, ◌⊎◌, ℕ, ◌+◌, ◌≤◌, false, List, [], ◌∷◌, ◌++◌, length, map, Contains, None}
 use Rattle.std.specs.List.{AllByRecursion}
 use Rattle.pcp_base.specs.declared.file.FileId.{FileId}
 use Rattle.pcp_base.specs.declared.result.Item.{Item}
@@ -8,17 +8,18 @@ use Rattle.pcp_base.specs.declared.result.PmResult.{PmResult}
 use Rattle.pcp_model.specs.Archive.{ArchiveReading, Reads, items_of}
 use Rattle.pcp_model.specs.Disk.{Files, Holdings, IsSettled, contents_of}
 use Rattle.pcp_model.specs.LabelFields.{LabelFields}
+use Rattle.pcp_model.specs.Laws.{EndsWhole}
 use Rattle.pcp_model.specs.Recovered.{Recovers}
 use Rattle.pcp_outside.specs.Causes.{shown_count}
-use Rattle.logger_core.specs.Grouping.{Told}
+use Rattle.logger_core.specs.Grouping.{LogsOne, Told}
 use Rattle.logger_core.specs.Held.{counts_of}
 use Rattle.logger_core.specs.Holding.{HasRoomBeside, HeldBack, IsHolding}
 use Rattle.logger_core.specs.Meant.{Meant}
 use Rattle.logger_core.specs.Reopening.{IsLeft}
 use Rattle.logging_session.specs.declared.place.Place.{Place}
 use Rattle.logging_session.specs.declared.place.Place.TheVariants.{Found, Open, Lost, Failed}
-use Rattle.logging_session.specs.Events.{Event, LeadFrom, items_by, acknowledged_by}
-use Rattle.logging_session.specs.Written.{OpensFound, Report, Stand, Written}
+use Rattle.logging_session.specs.Events.{Event, LeadFrom, items_by, acknowledged_by, logged_all}
+use Rattle.logging_session.specs.Written.{Logs, OpensFound, Report, Stand, Written}
 
 -- What a session is seen as: the label of an archive that it would make (but for its moment), the volume limit, how many results it
 -- logged, and where its archive stands: as recovery left it; with a logger that goes on with it; or nothing more is logged, since
@@ -80,10 +81,16 @@ AreApart others items = AllByRecursion (λ x. Contains others x → ⊥) items
 abbrev pub told_of : List Report → List Told
 told_of reports = map (λ (r : Report). (r.result, r.facts)) reports
 
+-- Each of these results is logged behind the ones before it, and a logger that goes on with the first of these archives means it so.
+abbrev pub LogsEach : ℕ → Written → Written → ℕ → List Report → Written → ℕ → Type 0
+LogsEach limit first w sure [] last all = (last ≡ w) × (all ≡ sure)
+LogsEach limit first w sure (r ∷ reports) last all =
+    (mid : Written) × (now : ℕ) × Logs limit r w mid × LogsOne (meant_of first w sure) w.volume limit r.result r.facts (meant_of first mid now) mid.volume × LogsEach limit first mid now reports last all
+
 -- Over what recovery left an archive was opened, into which a logger has logged these items since, each with a stamp of its own; all that
 -- stood before are acknowledged, and at least so many of them. The last results may be held yet: the disk then holds what was written
 -- before them.
-pub record IsGoing (left : Files) (limit : ℕ) (events : List Event) (w : Written) (b : HeldBack) (held : Holdings) : Type 0 where
+pub record IsGoing (l : LabelFields) (left : Files) (limit : ℕ) (events : List Event) (w : Written) (b : HeldBack) (held : Holdings) : Type 0 where
   pub label : LabelFields
   pub first : Written
   pub opens : OpensFound label left first.files first.contents
@@ -100,6 +107,12 @@ pub record IsGoing (left : Files) (limit : ℕ) (events : List Event) (w : Writt
   pub items_are : items_of w.contents.volumes ≡ items_of first.contents.volumes ++ items_by events
   pub apart : AreApart (items_of first.contents.volumes) (items_by events)
   pub enough : length (items_of first.contents.volumes) + acknowledged_by events ≤ acknowledged
+  -- the events but for the results that are held led to what is written, and these lead on from there
+  pub front : List Event
+  pub behind : events ≡ front ++ logged_all pending
+  pub led : LeadFrom l limit left front (Stand.opened written)
+  pub last : EndsWhole written.files written.contents written.volume
+  pub each : LogsEach limit first written acknowledged pending w later
   -- where nothing was logged all is settled
   pub settled : items_by events ≡ [] → IsSettled held
 
@@ -110,18 +123,18 @@ pub record IsUntouched (left : Files) (events : List Event) (files : Files) (hel
   pub none : events ≡ []
   pub sure : AllSure held
 
-abbrev pub IsPlace : Files → ℕ → List Event → Stand → Place → Holdings → Type 0
-IsPlace left limit events (Stand.found files) (Found archive) held = IsLeft archive held × IsUntouched left events files held
-IsPlace left limit events (Stand.found files) Lost held = IsUntouched left events files held
-IsPlace left limit events (Stand.opened w) (Open b) held = IsGoing left limit events w b held
-IsPlace left limit events stand place held = ⊥
+abbrev pub IsPlace : LabelFields → Files → ℕ → List Event → Stand → Place → Holdings → Type 0
+IsPlace l left limit events (Stand.found files) (Found archive) held = IsLeft archive held × IsUntouched left events files held
+IsPlace l left limit events (Stand.found files) Lost held = IsUntouched left events files held
+IsPlace l left limit events (Stand.opened w) (Open b) held = IsGoing l left limit events w b held
+IsPlace l left limit events stand place held = ⊥
 
 -- Over what recovery left, these events led to the files that stand on the disk once all is written that is held, with so many results
 -- logged.
 pub record Keeps (left : Files) (events : List Event) (s : Carried) (held : Holdings) : Type 0 where
   pub stand : Stand
   pub lead : LeadFrom s.label s.limit left events stand
-  pub place : IsPlace left s.limit events stand s.place held
+  pub place : IsPlace s.label left s.limit events stand s.place held
   pub counted : s.logged ≡ shown_count (length (items_by events))
 
 -- ---- over any disk

@@ -9,7 +9,7 @@ ghost use Rattle.archive_meta.specs.Enough.{AreEnough};
 ghost use Rattle.logger_core.specs.declared.fault.LogFault.TheVariants.{Closed, DiskFault, NoMemory as Refused};
 ghost use Rattle.logger_core.specs.Reopening.{IsLeft};
 ghost use Rattle.logging_session.specs.Answers.{ComesBackBy, CountsAll, CountsOn, FlushMayAnswer, LogFails, LogMayAnswer, MayTake, OpenMayAnswer, TakeFails, TakeMayAnswer};
-ghost use Rattle.logging_session.specs.Course.{HasKept, HasNotClosed, HasNotFlushed, HasNotLogged};
+ghost use Rattle.logging_session.specs.Course.{HasKept, HasNotClosed, HasNotFlushed, HasNotLogged, HasPassedHeld};
 ghost use Rattle.logging_session.specs.Events.{Event, behind, closing, opening, sure_event, with_report};
 ghost use Rattle.logging_session.specs.Keeping.{AreWhole, IsClosed, IsFailed, IsFound, IsLabelled, IsLost, IsOpen, IsWorking, Keeps, HasRoomIn, held_in, lost_in};
 
@@ -236,6 +236,8 @@ impl Session {
         // Event by event: it was opened, and then it took the result.
         ensures went { D.tells → AreEnough facts.now answer.now.sets → (left : AllFiles) (events : Sequence Event) (start : D) → HasKept D.Disk left events start self.old disk.old
             → MatchResult result (λ _. HasKept D.Disk left (with_report events (record { result = answer.now; facts = facts.now })) start self.new disk.new) (HasNotLogged D.Disk left events (record { result = answer.now; facts = facts.now }) start self.old self.new disk.new) }
+        // Where the disk failed, to make the archive, it held what the events lead to before.
+        ensures passed { D.tells → (left : AllFiles) (events : Sequence Event) (start : D) → HasKept D.Disk left events start self.old disk.old → IfErr result (λ e. e ≡ DiskFault → HasPassedHeld D.Disk left events start self.new disk.new) }
         // Where it is open nothing is written; else nothing is touched by a refusal but to make the archive, where there was none, which then
         // stays open.
         ensures unwritten { IsOpen self.old → disk.new ≡ disk.old }
@@ -271,6 +273,8 @@ impl Session {
             → LeavesOnly D.moment D.left_since disk.old disk.new (ComesBackBy events left) }
         ensures went { D.tells → (left : AllFiles) (events : Sequence Event) (start : D) → HasKept D.Disk left events start self.old disk.old
             → MatchResult result (λ _. HasKept D.Disk left events start self.new disk.new) (HasNotFlushed D.Disk left events start self.old self.new disk.new) }
+        // Where the disk failed it held, at some moment, exactly what the events lead to without the results that are lost.
+        ensures passed { D.tells → (left : AllFiles) (events : Sequence Event) (start : D) → HasKept D.Disk left events start self.old disk.old → IfErr result (λ e. e ≡ DiskFault → HasPassedHeld D.Disk left events start self.new disk.new) }
         ensures closed { IsClosed self.old → (result ≡ Err Closed) × (self.new ≡ self.old) × (disk.new ≡ disk.old) }
         ensures idle { IsWorking self.old → held_in self.old.place ≡ 0 → (result ≡ Ok tt) × (self.new ≡ self.old) × (disk.new ≡ disk.old) }
         ensures none { OnOk result (held_in self.new.place ≡ 0) }
@@ -305,6 +309,7 @@ impl Session {
         ensures settled { D.tells → (left : AllFiles) (events : Sequence Event) → Keeps left events self.old (D.held disk.old) → OnOk result (IsSettled (D.held disk.new)) }
         ensures any_moment { D.tells → (left : AllFiles) (events : Sequence Event) → Keeps left events self.old (D.held disk.old)
             → LeavesOnly D.moment D.left_since disk.old disk.new (ComesBackBy events left) }
+        ensures passed { D.tells → (left : AllFiles) (events : Sequence Event) (start : D) → HasKept D.Disk left events start self.old disk.old → IfErr result (λ e. e ≡ DiskFault → HasPassedHeld D.Disk left events start self.new disk.new) }
         ensures closed { IsClosed self.old → (result ≡ Err Closed) × (self.new ≡ self.old) × (disk.new ≡ disk.old) }
         ensures idle { IsFound self.old → (result ≡ Ok tt) × (self.new ≡ self.old) × (disk.new ≡ disk.old) }
         // Nothing is held any more.
@@ -340,6 +345,8 @@ impl Session {
             → LeavesOnly D.moment D.left_since disk.old disk.new (ComesBackBy events left) }
         ensures went { D.tells → (left : AllFiles) (events : Sequence Event) (start : D) → HasKept D.Disk left events start self.old disk.old
             → MatchResult result (λ _. HasKept D.Disk left (behind events Event.flushed) start self.new disk.new) (HasNotFlushed D.Disk left events start self.old self.new disk.new) }
+        // Where the disk failed it held, at some moment, exactly what the events lead to without the results that are lost.
+        ensures passed { D.tells → (left : AllFiles) (events : Sequence Event) (start : D) → HasKept D.Disk left events start self.old disk.old → IfErr result (λ e. e ≡ DiskFault → HasPassedHeld D.Disk left events start self.new disk.new) }
         ensures closed { IsClosed self.old → (result ≡ Err Closed) × (self.new ≡ self.old) × (disk.new ≡ disk.old) }
         // Before the archive is open nothing is done.
         ensures idle { IsFound self.old → (result ≡ Ok tt) × (self.new ≡ self.old) × (disk.new ≡ disk.old) }
@@ -365,6 +372,8 @@ impl Session {
             → LeavesOnly D.moment D.left_since disk.old disk.new (ComesBackBy events left) }
         ensures went { D.tells → (left : AllFiles) (events : Sequence Event) (start : D) → HasKept D.Disk left events start self.old disk.old
             → MatchResult result (λ _. HasKept D.Disk left (behind events Event.synced) start self.new disk.new) (HasNotFlushed D.Disk left events start self.old self.new disk.new) }
+        // Where the disk failed it held, at some moment, exactly what the events lead to without the results that are lost.
+        ensures passed { D.tells → (left : AllFiles) (events : Sequence Event) (start : D) → HasKept D.Disk left events start self.old disk.old → IfErr result (λ e. e ≡ DiskFault → HasPassedHeld D.Disk left events start self.new disk.new) }
         ensures closed { IsClosed self.old → (result ≡ Err Closed) × (self.new ≡ self.old) × (disk.new ≡ disk.old) }
         // Before the archive is open nothing is done.
         ensures idle { IsFound self.old → (result ≡ Ok tt) × (self.new ≡ self.old) × (disk.new ≡ disk.old) }
@@ -402,6 +411,8 @@ impl Session {
             → LeavesOnly D.moment D.left_since disk.old disk.new (ComesBackBy events left) }
         ensures went { D.tells → (left : AllFiles) (events : Sequence Event) (start : D) → HasKept D.Disk left events start self.old disk.old
             → MatchResult result (λ _. HasKept D.Disk left (closing events) start self.new disk.new) (HasNotClosed D.Disk left events start self.old disk.new) }
+        // Where the disk failed it held, at some moment, exactly what the events lead to without the results that are lost.
+        ensures passed { D.tells → (left : AllFiles) (events : Sequence Event) (start : D) → HasKept D.Disk left events start self.old disk.old → IfErr result (λ e. e ≡ DiskFault → HasPassedHeld D.Disk left events start self.new disk.new) }
         ensures failed { IsFailed self.old → (result ≡ Err Closed) × (self.new ≡ self.old) × (disk.new ≡ disk.old) }
         // Where nothing was logged nothing is done.
         ensures idle { self.old.logged ≡ 0 → (IsFailed self.old → ⊥) → (result ≡ Ok tt) × (self.new ≡ self.old) × (disk.new ≡ disk.old) }

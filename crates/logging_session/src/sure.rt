@@ -8,7 +8,7 @@ ghost use Rattle.logger_core.specs.Held.{counts_of};
 ghost use Rattle.logger_core.specs.Holding.{IsHolding, written_back};
 ghost use Rattle.logger_core.specs.Meant.{IsLogger, Meant, SurvivesOf};
 ghost use Rattle.logger_core.specs.Runs.{SurvivesWith};
-ghost use Rattle.logging_session.specs.Answers.{IsMadeSure};
+ghost use Rattle.logging_session.specs.Answers.{HasPassedBut, IsMadeSure};
 
 use logger_core::{Batch, LogFault};
 use pcp_outside::Disk;
@@ -19,6 +19,7 @@ pub(crate) fn write_held<D: Disk>(batch: &mut Batch, disk: &mut D) -> Result<(),
     ensures done { D.tells → (m o : Meant) (pending : Sequence Told) → IsHolding m batch.old pending o (D.held disk.old) → OnOk result (IsHolding o batch.new [] o (D.held disk.new)) }
     ensures emptied { OnOk result (batch.new ≡ written_back batch.old) }
     ensures any_moment { D.tells → (m o : Meant) (pending : Sequence Told) → IsHolding m batch.old pending o (D.held disk.old) → LeavesOnly D.moment D.left_since disk.old disk.new (SurvivesWith m (samples_of pending)) }
+    ensures passed { D.tells → (m o : Meant) (pending : Sequence Told) → IsHolding m batch.old pending o (D.held disk.old) → IfErr result (λ lost. HasPassedBut D.Disk m batch.old pending lost disk.old disk.new) }
     ensures idle { counts_of batch.old.runs ≡ 0 → (result ≡ Ok tt) × (batch.new ≡ batch.old) × (disk.new ≡ disk.old) }
     ensures lost { IfErr result (λ lost. (0 < lost) × (lost ≤ counts_of batch.old.runs) × Rose (D.faults disk.old) (D.faults disk.new)) }
     ensures later { D.faults disk.old ≤ D.faults disk.new }
@@ -65,6 +66,7 @@ pub(crate) fn make_batch_sure<D: Disk>(
     ensures done { D.tells → (m o : Meant) (pending : Sequence Told) → IsHolding m batch.old pending o (D.held disk.old) → OnOk result (IsMadeSure puts_entry o (written_back batch.old).kept batch.new.kept (D.held disk.new)) }
     ensures open_ { OnOk result ((batch.new.kept.limit ≡ batch.old.kept.limit) × (batch.new.kept.closed ≡ false) × (batch.new.runs ≡ []) × (batch.new.planned ≡ batch.new.kept.ends)) }
     ensures any_moment { D.tells → (m o : Meant) (pending : Sequence Told) → IsHolding m batch.old pending o (D.held disk.old) → LeavesOnly D.moment D.left_since disk.old disk.new (SurvivesWith m (samples_of pending)) }
+    ensures passed { D.tells → (m o : Meant) (pending : Sequence Told) → IsHolding m batch.old pending o (D.held disk.old) → IfErr result (λ lost. HasPassedBut D.Disk m batch.old pending lost disk.old disk.new) }
     ensures sure { D.tells → OnOk result (IsVolumeSure batch.new.kept.ends.volume (D.held disk.new)) }
     ensures lost { IfErr result (λ lost. (lost ≤ counts_of batch.old.runs) × Rose (D.faults disk.old) (D.faults disk.new)) }
     ensures later { D.faults disk.old ≤ D.faults disk.new }

@@ -10,6 +10,7 @@ use Rattle.logging_session.specs.Events.{Event, behind}
 use Rattle.logging_session.specs.Keeping.{AreWhole, Carried, IsFailed, IsWorking, Keeps}
 use Rattle.logging_session.proofs.Course.{kept_not_failed, not_closed_by}
 use Rattle.logging_session.proofs.Events.{closing_none, closing_some}
+use Rattle.logging_session.proofs.Passing.{not_the_disk}
 use Rattle.logging_session.proofs.Placed.{nothing_logged, same_count, working_not_failed}
 use Rattle.logging_session.proofs.Sessions.{kept_comes, kept_none, kept_settled, kept_some, kept_whole}
 use Rattle.logging_session.proofs.session.Session.close.Goals as goal
@@ -28,6 +29,7 @@ returns-then-has_failed g c =
       whole = λ tells left events k whole. tt;
       any_moment = λ tells left events k. no_call d g.met.D.Disk.only_now c.args.disk.now (ComesBackBy events left) (kept_comes left events c.args.self.now (d.held c.args.disk.now) k);
       went = λ tells left events start h. kept_not_failed left events c.args.self.now (d.held c.args.disk.now) h.keeps failed;
+      passed = λ tells left events start h. not_the_disk;
       failed = λ h. (refl, refl, refl);
       idle = λ none other. absurd (other failed);
       open_ = tt;
@@ -53,6 +55,7 @@ returns-then-self-eq0 g c =
       whole = λ tells left events k whole. kept_whole left events old held k whole;
       any_moment = λ tells left events k. no_call d g.met.D.Disk.only_now c.args.disk.now (ComesBackBy events left) (kept_comes left events old held k);
       went = λ tells left events start h. subst (λ (es : List Event). HasKept d left es start old c.args.disk.now) (sym (closing_none events (kept_none left events old held h.keeps none))) h;
+      passed = λ tells left events start h. tt;
       failed = λ h. absurd (other h);
       idle = λ none other. (refl, refl, refl);
       open_ = other;
@@ -85,6 +88,7 @@ returns g c =
           MatchResult-weaker c.flush.result (c.flush.ensures.went tells left events start h)
           (λ v now. subst (λ (es : List Event). HasKept d left es start new c.flush.new.disk) (sym (closing_some events more)) now)
           (λ e fails. not_closed_by d left g.met.D.Disk.only_now events start c.args.disk.now c.flush.new.disk old new h more e fails);
+      passed = c.flush.ensures.passed;
       failed = λ h. absurd (other h);
       idle = λ none also. absurd (some none);
       open_ = on_ok c.flush.result (IsWorking old × IsWorking new) (IsFailed new → ⊥) (λ w. working_not_failed new.place w.1) c.flush.ensures.working;

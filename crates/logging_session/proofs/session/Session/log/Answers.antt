@@ -6,13 +6,14 @@ use Rattle.logger_core.specs.declared.fault.LogFault.{LogFault}
 use Rattle.logger_core.specs.declared.fault.LogFault.TheVariants.{DiskFault}
 use Rattle.logger_core.proofs.Keeping.{handed_on}
 use Rattle.logging_session.specs.Answers.{CountsOn, LogFails, LogMayAnswer, MayTake, TakeFails, TakeMayAnswer}
-use Rattle.logging_session.specs.Course.{HasKept, HasNotLogged}
+use Rattle.logging_session.specs.Course.{HasKept, HasNotLogged, HasPassedHeld}
 use Rattle.logging_session.specs.Events.{opening, with_report}
 use Rattle.logging_session.specs.Keeping.{Carried, IsLabelled, IsLost, IsOpen, Keeps, held_in}
 use Rattle.logging_session.specs.Written.{Report}
 use Rattle.logging_session.proofs.Logging.{log_fails, open_fails, open_may, take_may, take_not_lost}
 use Rattle.logging_session.proofs.Counting.{counted_from}
-use Rattle.logging_session.proofs.Course.{kept_opened, not_opened, take_went}
+use Rattle.logging_session.proofs.Course.{kept_opened, not_opened, take_went, went_still}
+use Rattle.logging_session.proofs.Passing.{open_passed}
 use Rattle.logging_session.proofs.Placed.{taken_before}
 use Rattle.logging_session.proofs.session.Session.log.Goals as goal
 
@@ -76,6 +77,18 @@ returns-in_err-open_for-clause-went g c = λ tells enough left events start h.
     (not_opened d left g.met.D.Disk.only_now start first last old new c.open_for.ensures.same.0 c.open_for.ensures.same.1 events r h (c.open_for.ensures.any_moment tells left events h.keeps)
     (d.faults first) (d.faults last) e c.in_err-open_for.ensures.cause (c.in_err-open_for.ensures.refused tells left events h.keeps))
 
+pub returns-in_err-open_for-clause-passed : goal.returns-in_err-open_for-clause-passed
+returns-in_err-open_for-clause-passed g c = λ tells left events start h.
+    let d = g.D.Disk in
+    let old = c.args.self.now in
+    let new = c.open_for.new.self in
+    let first = c.args.disk.now in
+    let last = c.open_for.new.disk in
+    let e = c.in_err-open_for.field-0.0 in
+    handed_on c.from_residual.result e (λ f. f ≡ DiskFault → HasPassedHeld d left events start new last) c.from_residual.ensures.1
+    (λ is. open_passed d left events start first last old new c.open_for.ensures.same.0 c.open_for.ensures.same.1 h (d.faults first) (d.faults last) e is c.in_err-open_for.ensures.cause
+    (went_still d left old.label old.limit events start first last h.went (c.open_for.ensures.any_moment tells left events h.keeps)))
+
 pub returns-clause-untouched : goal.returns-clause-untouched
 returns-clause-untouched g c =
     let r : Report = record { result = c.args.answer.now; facts = c.args.facts.now } in
@@ -136,9 +149,9 @@ returns-clause-went g c = λ tells enough left events start h.
     let mid = c.open_for.new.disk in
     let es = opening r.result.stamp events in
     let opened : Keeps left es middle (d.held mid) = c.in_ok-open_for.ensures.done tells left events h.keeps in
-    let now : HasKept d left es start middle mid = kept_opened d left g.met.D.Disk.only_now start c.args.disk.now mid old middle c.open_for.ensures.same.0 c.open_for.ensures.same.1 r.result.stamp events h (c.open_for.ensures.any_moment tells left events h.keeps) opened in
-    take_went d left g.met.D.Disk.only_now events r start mid old middle c.take.new.self opened c.in_ok-open_for.ensures.open_.1 c.open_for.ensures.same.0 c.open_for.ensures.same.1 now.went
-    c.take.result c.take.ensures.same.0 c.take.ensures.same.1 (c.take.ensures.done enough left es (d.held mid) opened) c.take.ensures.cause (c.take.ensures.fault enough left es (d.held mid) opened)
+    let now : HasKept d left es start middle mid = kept_opened d left g.met.D.Disk.only_now start c.args.disk.now mid old middle c.open_for.ensures.same.0 c.open_for.ensures.same.1 r.result.stamp events h (c.open_for.ensures.any_moment tells left events h.keeps) opened (λ was. let still = c.open_for.ensures.stays was in (still.1, still.2)) in
+    take_went d left g.met.D.Disk.only_now events r start mid old middle c.take.new.self opened c.in_ok-open_for.ensures.open_.1 c.open_for.ensures.same.0 c.open_for.ensures.same.1 now.went now.held
+    c.take.result c.take.ensures.same.0 c.take.ensures.same.1 (c.take.ensures.done enough left es (d.held mid) opened) c.take.ensures.holds c.take.ensures.cause (c.take.ensures.fault enough left es (d.held mid) opened)
 
 pub returns-clause-unwritten : goal.returns-clause-unwritten
 returns-clause-unwritten g c = λ was. (c.open_for.ensures.stays was).2

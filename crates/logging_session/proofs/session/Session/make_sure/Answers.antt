@@ -6,6 +6,7 @@ use Rattle.logging_session.specs.declared.place.Place.TheVariants.{Found, Open, 
 use Rattle.logging_session.specs.Answers.{ComesBackBy}
 use Rattle.logging_session.specs.Events.{behind, sure_event}
 use Rattle.logging_session.specs.Keeping.{Carried, Keeps, held_in}
+use Rattle.logging_session.proofs.Passing.{batch_passed, not_the_disk}
 use Rattle.logging_session.proofs.Placed.{failed_closed, failed_not_found, few_lost, fewer_than, found_is, found_not_closed, found_not_open, lost_closed, lost_not_found, none_lost, nothing_held, open_is, open_may_log, open_not_closed, open_not_found, same_count}
 use Rattle.logging_session.proofs.Sessions.{batch_comes, idle_settles, idles, kept_comes, makes_sure, sure_settles, with_place}
 use Rattle.logging_session.proofs.session.Session.make_sure.Goals as goal
@@ -24,6 +25,7 @@ returns-in-Found g c =
       done = λ tells left events k. subst (λ (t : Carried). Keeps left (behind events (sure_event c.args.puts_entry)) t held) (sym same) (idles left events old held k a was (sure_event c.args.puts_entry));
       settled = λ tells left events k. idle_settles left events old held k a was;
       any_moment = λ tells left events k. no_call d g.met.D.Disk.only_now c.args.disk.now (ComesBackBy events left) (kept_comes left events old held k);
+      passed = λ tells left events start h. tt;
       closed = λ h. found_not_closed old a was h;
       idle = λ h. (refl, same, refl);
       working = (inl (found_is old a was), inl (found_is s a is));
@@ -49,6 +51,7 @@ returns-in-Lost g c =
       done = λ tells left events k. tt;
       settled = λ tells left events k. tt;
       any_moment = λ tells left events k. no_call d g.met.D.Disk.only_now c.args.disk.now (ComesBackBy events left) (kept_comes left events old held k);
+      passed = λ tells left events start h. not_the_disk;
       closed = λ h. (refl, same, refl);
       idle = λ h. lost_not_found old was h;
       none = tt;
@@ -75,6 +78,7 @@ returns-in-Failed g c =
       done = λ tells left events k. tt;
       settled = λ tells left events k. tt;
       any_moment = λ tells left events k. no_call d g.met.D.Disk.only_now c.args.disk.now (ComesBackBy events left) (kept_comes left events old held k);
+      passed = λ tells left events start h. not_the_disk;
       closed = λ h. (refl, same, refl);
       idle = λ h. failed_not_found old lost was h;
       none = tt;
@@ -105,6 +109,7 @@ returns-in-Ok g c =
           (makes_sure left events old held k batch now after was o.0 o.1 o.2 o.3 (c.in-Ok.ensures.sure tells) c.args.puts_entry (c.in-Ok.ensures.done tells));
       settled = λ tells left events k. sure_settles left events old held k batch now after was o.0 o.1 o.2 o.3 (c.in-Ok.ensures.sure tells) c.args.puts_entry (c.in-Ok.ensures.done tells);
       any_moment = λ tells left events k. batch_comes d left events old c.args.disk.now c.make_batch_sure.new.disk k batch was (c.make_batch_sure.ensures.any_moment tells);
+      passed = λ tells left events start h. tt;
       closed = λ h. open_not_closed old batch was h;
       idle = λ h. open_not_found old batch was h;
       none = ap counts_of o.2;
@@ -129,6 +134,7 @@ returns-in-Err g c =
       done = λ tells left events k. tt;
       settled = λ tells left events k. tt;
       any_moment = λ tells left events k. batch_comes d left events old c.args.disk.now c.make_batch_sure.new.disk k batch was (c.make_batch_sure.ensures.any_moment tells);
+      passed = λ tells left events start h is_fault. batch_passed d left events start c.args.disk.now c.make_batch_sure.new.disk old (with_place s (Failed c.in-Err.lost)) (ap (λ (t : Carried). t.label) c.self.view_is) (ap (λ (t : Carried). t.limit) c.self.view_is) h batch was c.in-Err.lost refl (λ m o pending i. c.in-Err.ensures.passed tells m o pending i);
       closed = λ h. open_not_closed old batch was h;
       idle = λ h. open_not_found old batch was h;
       none = tt;

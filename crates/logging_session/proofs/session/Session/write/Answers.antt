@@ -9,6 +9,7 @@ use Rattle.logging_session.specs.Answers.{ComesBackBy}
 use Rattle.logging_session.specs.Course.{HasKept}
 use Rattle.logging_session.specs.Keeping.{Carried, Keeps, held_in}
 use Rattle.logging_session.proofs.Course.{kept_still, went_still}
+use Rattle.logging_session.proofs.Passing.{batch_passed, not_the_disk}
 use Rattle.logging_session.proofs.Placed.{closed_not_working, failed_closed, few_lost, fewer_than, found_is, found_not_closed, found_not_open, lost_closed, none_lost, nothing_held, open_is, open_may_log, open_not_closed, same_count}
 use Rattle.logging_session.proofs.Sessions.{batch_comes, kept_comes, put_back, with_place, writes}
 use Rattle.logging_session.proofs.session.Session.write.Goals as goal
@@ -29,6 +30,7 @@ returns-in-Found g c =
     record {
       done = λ tells left events k. subst (λ (t : Carried). Keeps left events t held) (sym same) k;
       any_moment = λ tells left events k. no_call d g.met.D.Disk.only_now c.args.disk.now (ComesBackBy events left) (kept_comes left events old held k);
+      passed = λ tells left events start h. tt;
       went = λ tells left events start h. subst (λ (t : Carried). HasKept d left events start t c.args.disk.now) (sym same) h;
       closed = λ h. found_not_closed old a was h;
       idle = λ working nothing. (refl, same, refl);
@@ -55,6 +57,7 @@ returns-in-Lost g c =
     record {
       done = λ tells left events k. tt;
       any_moment = λ tells left events k. no_call d g.met.D.Disk.only_now c.args.disk.now (ComesBackBy events left) (kept_comes left events old held k);
+      passed = λ tells left events start h. not_the_disk;
       went = λ tells left events start h. (lost_closed old was, subst (λ (t : Carried). HasKept d left events start t c.args.disk.now) (sym same) h);
       closed = λ h. (refl, same, refl);
       idle = λ working nothing. closed_not_working old.place (lost_closed old was) working;
@@ -82,6 +85,7 @@ returns-in-Failed g c =
     record {
       done = λ tells left events k. tt;
       any_moment = λ tells left events k. no_call d g.met.D.Disk.only_now c.args.disk.now (ComesBackBy events left) (kept_comes left events old held k);
+      passed = λ tells left events start h. not_the_disk;
       went = λ tells left events start h. (failed_closed old lost was, subst (λ (t : Carried). HasKept d left events start t c.args.disk.now) (sym same) h);
       closed = λ h. (refl, same, refl);
       idle = λ working nothing. closed_not_working old.place (failed_closed old lost was) working;
@@ -117,9 +121,11 @@ returns-in-Ok g c =
       done = λ tells left events k. subst (λ (t : Carried). Keeps left events t (d.held last)) (sym new)
           (writes left events old held k batch now (d.held last) was (c.in-Ok.ensures.done tells) emptied (λ none. ap d.held (idle (ap counts_of none)).2));
       any_moment = λ tells left events k. batch_comes d left events old first last k batch was (c.write_held.ensures.any_moment tells);
+      passed = λ tells left events start h. tt;
       went = λ tells left events start h. kept_still d left g.met.D.Disk.only_now start first last old (with_place s (Open now)) label limit events h
           (batch_comes d left events old first last h.keeps batch was (c.write_held.ensures.any_moment tells))
-          (subst (λ (t : Carried). Keeps left events t (d.held last)) (sym new) (writes left events old held h.keeps batch now (d.held last) was (c.in-Ok.ensures.done tells) emptied (λ none. ap d.held (idle (ap counts_of none)).2)));
+          (subst (λ (t : Carried). Keeps left events t (d.held last)) (sym new) (writes left events old held h.keeps batch now (d.held last) was (c.in-Ok.ensures.done tells) emptied (λ none. ap d.held (idle (ap counts_of none)).2)))
+          (ap (λ (x : HeldBack). counts_of x.runs) emptied);
       closed = λ h. open_not_closed old batch was h;
       idle = λ working nothing.
           let still = idle (sym (ap held_in was) ∙ nothing) in (refl, put_back s old (Open now) c.self.view_is (is ∙ ap (λ (x : HeldBack). Open x) (sym still.1)), still.2);
@@ -148,6 +154,7 @@ returns-in-Err g c =
     record {
       done = λ tells left events k. tt;
       any_moment = λ tells left events k. batch_comes d left events old first last k batch was (c.write_held.ensures.any_moment tells);
+      passed = λ tells left events start h is_fault. batch_passed d left events start c.args.disk.now c.write_held.new.disk old (with_place s (Failed c.in-Err.lost)) (ap (λ (t : Carried). t.label) c.self.view_is) (ap (λ (t : Carried). t.limit) c.self.view_is) h batch was c.in-Err.lost refl (λ m o pending i. c.in-Err.ensures.passed tells m o pending i);
       went = λ tells left events start h. went_still d left old.label old.limit events start first last h.went (batch_comes d left events old first last h.keeps batch was (c.write_held.ensures.any_moment tells));
       closed = λ h. open_not_closed old batch was h;
       idle = λ working nothing. absurd (omega (arith, lost.0, lost.1, ap held_in was, nothing));
