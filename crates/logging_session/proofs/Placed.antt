@@ -139,6 +139,37 @@ nothing_logged p q n few none same = omega (arith, few, none, ap held_in same)
 pub same_count : (n : ℕ) → n ≤ n
 same_count n = omega arith
 
+-- what isn't logged isn't held
+place_unheld : (p q : Place) → HasLost q ⊎ HasFailed q → held_in q ≤ held_in p
+place_unheld p (Found archive) closed = neither closed
+place_unheld p (Open b) closed = neither closed
+place_unheld p Lost closed = omega arith
+place_unheld p (Failed lost) closed = omega arith
+
+still_held : (old new : Carried) → new ≡ old → held_in new.place ≤ held_in old.place
+still_held old new same = omega (arith, ap (λ (s : Carried). held_in s.place) same)
+
+failed_unheld : (p q : Place) → q ≡ Failed 0 → held_in q ≤ held_in p
+failed_unheld p q is = omega (arith, ap held_in is)
+
+pub open_unheld : (old new : Carried) (before after : ℕ) (e : LogFault) → OpenMayAnswer old new before after e → held_in new.place ≤ held_in old.place
+open_unheld old new before after Closed may = still_held old new may.1
+open_unheld old new before after (Large bytes) may = absurd may
+open_unheld old new before after (NotLater last) may = absurd may
+open_unheld old new before after (Changed pmid) may = absurd may
+open_unheld old new before after (Full file bytes) may = absurd may
+open_unheld old new before after NoMemory may = place_unheld old.place new.place (inl may.1)
+open_unheld old new before after DiskFault may = failed_unheld old.place new.place may.1
+
+pub take_unheld : (r : Report) (old new : Carried) (e : LogFault) (n : ℕ) → held_in old.place ≡ n → TakeMayAnswer r old new e → held_in new.place ≤ n
+take_unheld r old new Closed n is may = absurd may
+take_unheld r old new (Large bytes) n is may = omega (arith, still_held old new may.0, is)
+take_unheld r old new (NotLater last) n is may = omega (arith, still_held old new may.0, is)
+take_unheld r old new (Changed pmid) n is may = omega (arith, still_held old new may.0, is)
+take_unheld r old new (Full file bytes) n is may = omega (arith, still_held old new may.0, is)
+take_unheld r old new NoMemory n is may = omega (arith, still_held old new may, is)
+take_unheld r old new DiskFault n is may = absurd may
+
 -- what an open session took it could take before, where it was open before
 pub taken_before : (p q : Place) (r : Report) → (HasLogger p → q ≡ p) → MayTake q r → MayTake p r
 taken_before (Found archive) q r same may = tt

@@ -66,7 +66,9 @@ impl Session {
 
     /// How many results it logged.
     pub fn logged(&self) -> u64
-        ensures { result ≡ self.now.logged }
+        ensures value { result ≡ self.now.logged }
+        // No more are held.
+        ensures held { held_in self.now.place ≤ result }
     {
         self.logged
     }
@@ -160,7 +162,8 @@ impl Session {
 
     /// How many results were held when the disk failed and weren't written: the last ones of those that were logged. 0 unless it failed.
     pub fn lost(&self) -> u32
-        ensures { result ≡ lost_in self.now.place }
+        ensures value { result ≡ lost_in self.now.place }
+        ensures few { result ≤ self.now.logged }
     {
         match &self.place {
             Place::Failed(lost) => *lost,
@@ -249,6 +252,7 @@ impl Session {
             → OnOk result (CountsOn (record { result = answer.now; facts = facts.now }) self.old.place self.new.place) }
         // One more is held.
         ensures holds { OnOk result (held_in self.new.place ≡ held_in self.old.place + 1) }
+        ensures unheld { OnErr result (held_in self.new.place ≤ held_in self.old.place) }
         // Of an open session Ok comes only for a result that may be logged.
         ensures loggable { OnOk result (MayTake self.old.place (record { result = answer.now; facts = facts.now })) }
         ensures open_ { OnOk result (IsWorking self.old × IsOpen self.new) }

@@ -1,5 +1,5 @@
 -- The archive is opened, and handed the result.
-use Rattle.std.proofs.Common.{◌≡◌, ◌≢◌, ◌⊎◌, ⊎_elim, ℕ, ◌+◌, Result, Ok, Err, sym, ap, ◌∙◌, subst, arith}
+use Rattle.std.proofs.Common.{◌≡◌, ◌≢◌, ◌⊎◌, ⊎_elim, ℕ, ◌+◌, ◌≤◌, Result, Ok, Err, sym, ap, ◌∙◌, subst, arith}
 use Rattle.std.specs.Prelude.{IfErr, IsErrAnd, MatchResult, OnOk}
 use Rattle.std.proofs.lemmas.Result.{err_from_is_err_and}
 use Rattle.logger_core.specs.declared.fault.LogFault.{LogFault}
@@ -14,7 +14,7 @@ use Rattle.logging_session.proofs.Logging.{log_fails, open_fails, open_may, take
 use Rattle.logging_session.proofs.Counting.{counted_from}
 use Rattle.logging_session.proofs.Course.{kept_opened, not_opened, take_went, went_still}
 use Rattle.logging_session.proofs.Passing.{open_passed}
-use Rattle.logging_session.proofs.Placed.{taken_before}
+use Rattle.logging_session.proofs.Placed.{open_unheld, take_unheld, taken_before}
 use Rattle.logging_session.proofs.session.Session.log.Goals as goal
 
 on_ok : {T E : Type 0} (r : Result T E) (P Q : Type 0) → (P → Q) → OnOk r P → OnOk r Q
@@ -165,3 +165,19 @@ returns-clause-holds g c =
     let middle = c.open_for.new.self in
     let new = c.take.new.self in
     on_ok c.take.result (held_in new.place ≡ held_in middle.place + 1) (held_in new.place ≡ held_in old.place + 1) (λ more. more ∙ ap (λ (n : ℕ). n + 1) c.in_ok-open_for.ensures.held) c.take.ensures.holds
+
+pub returns-in_err-open_for-clause-unheld : goal.returns-in_err-open_for-clause-unheld
+returns-in_err-open_for-clause-unheld g c =
+    let d = g.D.Disk in
+    let old = c.args.self.now in
+    let new = c.open_for.new.self in
+    let e = c.in_err-open_for.field-0.0 in
+    handed_on c.from_residual.result e (λ f. held_in new.place ≤ held_in old.place) c.from_residual.ensures.1 (open_unheld old new (d.faults c.args.disk.now) (d.faults c.open_for.new.disk) e c.in_err-open_for.ensures.cause)
+
+pub returns-clause-unheld : goal.returns-clause-unheld
+returns-clause-unheld g c =
+    let r : Report = record { result = c.args.answer.now; facts = c.args.facts.now } in
+    let old = c.args.self.now in
+    let middle = c.open_for.new.self in
+    let new = c.take.new.self in
+    err_as c.take.result (λ (e : LogFault). TakeMayAnswer r middle new e) (λ (e : LogFault). held_in new.place ≤ held_in old.place) (λ e may. take_unheld r middle new e (held_in old.place) c.in_ok-open_for.ensures.held may) c.take.ensures.cause
