@@ -1,5 +1,5 @@
 -- How a run ends behind its last line: what was logged is flushed and told.
-use Rattle.std.proofs.Common.{◌≡◌, ◌≢◌, ◌⊎◌, inl, inr, ℕ, ◌-◌, ◌≤◌, List, [], append-nil, length, refl, sym, ap, ◌∙◌, subst}
+use Rattle.std.proofs.Common.{◌≡◌, ◌≢◌, ◌⊎◌, inl, inr, ℕ, ◌-◌, ◌≤◌, List, [], length, refl, sym, ap, ◌∙◌, subst}
 use Rattle.pcp_base.specs.declared.result.Item.{Item}
 use Rattle.pcp_model.specs.Disk.{Files}
 use Rattle.pcp_outside.specs.declared.disk.Disk.{Ghosts as DiskGhosts}
@@ -7,7 +7,6 @@ use Rattle.region_rule.specs.Seats.{Token}
 use Rattle.fetch_engine.specs.declared.server.Mounted.{Mounted}
 use Rattle.logging_session.specs.Course.{WentBy}
 use Rattle.logging_session.specs.Events.{Event, items_by, logged_all}
-use Rattle.run_script.specs.declared.script.Line.{Line}
 use Rattle.run_script.specs.declared.script.Script.{Script}
 use Rattle.run_passes.specs.Seen.{HaveSeen}
 use Rattle.script_runs.specs.declared.ending.Ending.{Ending}
@@ -16,7 +15,7 @@ use Rattle.script_runs.specs.declared.ending.LimitKind.{LimitKind}
 use Rattle.script_runs.specs.declared.ending.LimitKind.TheVariants as kinds
 use Rattle.script_runs.specs.Archives.{run_label}
 use Rattle.script_runs.specs.Closing.{closed_regions}
-use Rattle.script_runs.specs.Runs.{Does, FailsBehind, Halts, LineDoes, Loses, Next, RanTo, RunDoes, with_end}
+use Rattle.script_runs.specs.Runs.{Does, FailsBehind, Halts, LineDoes, Next, RanTo, with_end}
 use Rattle.script_runs.specs.Steps.{RunState}
 use Rattle.run_archive.specs.declared.replayed.Replayed.{Replayed}
 use Rattle.run_archive.specs.Endings.{EndsAs, before_lost, told_behind}

@@ -1,5 +1,5 @@
 -- Where a run ends whose last results are lost.
-use Rattle.std.proofs.Common.{◌≡◌, inl, inr, ℕ, zero, suc, ◌+◌, ◌-◌, ◌≤◌, List, [], ◌∷◌, ◌++◌, append-nil, append_assoc, length, length-append, take, Option, Some, None, refl, sym, ap, ◌∙◌, subst, arith}
+use Rattle.std.proofs.Common.{◌≡◌, inl, inr, ℕ, zero, suc, ◌+◌, ◌-◌, ◌≤◌, List, [], ◌∷◌, ◌++◌, append-nil, append_assoc, length, length-append, take, Option, None, refl, sym, ap, ◌∙◌, subst, arith}
 use Rattle.std.specs.Prelude.{slice_get}
 use Rattle.std.proofs.Math.Seq.{take-append_seam}
 use Rattle.std.proofs.lemmas.Option.{slice_get_past}
@@ -9,10 +9,9 @@ use Rattle.pcp_model.specs.Disk.{Files}
 use Rattle.pcp_model.specs.LabelFields.{LabelFields}
 use Rattle.pcp_outside.specs.declared.disk.Disk.{Ghosts as DiskGhosts}
 use Rattle.logging_session.specs.Course.{HasPassed, WentBy}
-use Rattle.logging_session.specs.Events.{EndsLogged, Event, items_by, logged_all, opening}
+use Rattle.logging_session.specs.Events.{Event, items_by, logged_all, opening}
 use Rattle.logging_session.specs.Written.{Report}
 use Rattle.logging_session.proofs.Events.{opening_items}
-use Rattle.run_script.specs.declared.script.Line.{Line}
 use Rattle.run_script.specs.declared.script.Script.{Script}
 use Rattle.script_runs.specs.Runs.{FailsBehind, Loses, RanFirst}
 use Rattle.script_runs.specs.Steps.{RunState}

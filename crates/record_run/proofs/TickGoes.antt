@@ -16,7 +16,6 @@ use Rattle.run_script.specs.declared.script.Script.{Script}
 use Rattle.run_passes.specs.declared.running.Running.{Running}
 use Rattle.run_passes.specs.Crews.{Alone, Follows, IsManned}
 use Rattle.script_runs.specs.Archives.{report_of}
-use Rattle.script_runs.specs.Runs.{Shows}
 use Rattle.script_runs.specs.Groups.{Plan, asked_for, asking, shots_of}
 use Rattle.script_runs.specs.Steps.{PassesForEach, RunState, asking_at, fetched_at, fetched_from, plans_at, pmids_at, with_shown}
 use Rattle.script_runs.proofs.Going.{with_report_items}

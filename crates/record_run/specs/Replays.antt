@@ -16,7 +16,6 @@ use Rattle.script_runs.specs.declared.ending.Ending.{Ending}
 use Rattle.script_runs.specs.declared.ending.Ending.TheVariants as ends
 use Rattle.script_runs.specs.Regions.{ScriptRegion}
 use Rattle.script_runs.specs.Runs.{RanTo, RunDoes, are_idle, line_behind}
-use Rattle.script_runs.specs.Steps.{RunState}
 use Rattle.run_archive.specs.declared.replayed.Replayed.{Replayed}
 use Rattle.run_archive.specs.Kept.{KeepsRun}
 use Rattle.run_archive.specs.Outcomes.{HasFinished, RunsOnFiles}

@@ -77,12 +77,9 @@ pub(crate) fn tick<'a, D: Disk>(
         return Err(Ending::NoMemory);
     };
     let count = sample_at(alloc, disk, &mut run.sampler, script, server, seat, now)?;
-    put_mark(
-        &mut run.marks,
-        count,
-        run.sampler.session.held(),
-        run.out.len(),
-    );
+    let held = run.sampler.session.held();
+    let start = run.out.len();
+    put_mark(&mut run.marks, count, held, start);
     put_one(&mut run.out, b"tick", count);
     Ok(())
 }

@@ -1,5 +1,5 @@
 -- A recording over what recovery left.
-use Rattle.std.proofs.Common.{ℕ, List, [], ap, refl, ◌∙◌, ◌≡◌, subst, sym}
+use Rattle.std.proofs.Common.{[], refl, ◌∙◌, ◌≡◌}
 use Rattle.run_archive.specs.Endings.{told_behind}
 use Rattle.run_archive.proofs.Beginning.{begins_over}
 use Rattle.script_runs.specs.declared.ending.Ending.TheVariants as ends

@@ -1,5 +1,5 @@
 -- A script is run over what recovery left.
-use Rattle.std.proofs.Common.{None, refl, ◌≡◌, ◌-◌, ◌≤◌, ℕ, List, length, inl, inr, sym, subst, ◌∙◌}
+use Rattle.std.proofs.Common.{None, refl, ◌≡◌, ◌-◌, ◌≤◌, ℕ, List, length, subst, ◌∙◌}
 use Rattle.script_runs.specs.Runs.{run_start}
 use Rattle.run_archive.specs.Endings.{before_lost, told_behind}
 use Rattle.record_run.specs.declared.run.Run.{Run}

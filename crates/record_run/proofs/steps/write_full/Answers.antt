@@ -1,5 +1,5 @@
 -- What is held is written.
-use Rattle.std.proofs.Common.{◌≡◌, ◌≤◌, ◌∙◌, arith}
+use Rattle.std.proofs.Common.{◌≡◌, ◌∙◌, arith}
 use Rattle.logging_session.specs.Keeping.{held_in}
 use Rattle.run_archive.proofs.Causes.{flush_unclosed}
 use Rattle.run_archive.proofs.Flushes.{flush_failed}

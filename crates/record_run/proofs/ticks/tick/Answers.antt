@@ -42,9 +42,9 @@ returns-clause-goes g c = λ alone s stands.
     let was : Run = c.args.run.now in
     let is : Run = record was { sampler = c.sample_at.new.sampler; out = c.put_one.new.out; marks = c.put_mark.new.marks } in
     let long : vec_len c.make_room.new.out ≡ length c.make_room.new.out.items = search rules in
-    let begins : c.len.result ≡ length was.out.items = c.len.ensures ∙ long ∙ ap (λ (output : List ℕ). length output) c.make_room.ensures.same in
+    let begins : c.len-start.result ≡ length was.out.items = c.len-start.ensures ∙ long ∙ ap (λ (output : List ℕ). length output) c.make_room.ensures.same in
     let put : Puts c.in_ok-count.count (length was.out.items) was.marks.items is.marks.items =
     subst (λ (mark : ℕ). Puts c.in_ok-count.count mark was.marks.items is.marks.items) begins
-    (put_so c.in_ok-count.count c.held.result c.len.result was.marks.items is.marks.items c.put_mark.ensures.none c.put_mark.ensures.alone c.put_mark.ensures.behind) in
+    (put_so c.in_ok-count.count c.held-held.result c.len-start.result was.marks.items is.marks.items c.put_mark.ensures.none c.put_mark.ensures.alone c.put_mark.ensures.behind) in
     tick_goes g.D.Disk c.args.script.now c.args.server.now s was is c.args.seat.now.tokens c.sample_at.new.seat.tokens c.args.disk.now c.sample_at.new.disk c.args.now c.requires.manned refl alone stands c.in_ok-count.count
     c.in_ok-count.ensures.goes put (c.put_one.ensures ∙ ap (λ (output : List ℕ). output ++ one_number (codes "tick") c.in_ok-count.count) c.make_room.ensures.same)
