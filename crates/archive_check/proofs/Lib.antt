@@ -5,6 +5,7 @@ pub mod Falling
 pub mod FirstBad
 pub mod Firsts
 pub mod Handing
+pub mod Heads
 pub mod Judged
 pub mod Judging
 pub mod Placed

@@ -22,7 +22,7 @@ use Rattle.archive_frame.specs.Steps.{Stands}
 use Rattle.archive_meta.specs.Framed.{RecordStands}
 use Rattle.archive_meta.specs.Records.{AreRecords}
 use Rattle.archive_loading.specs.Stamps.{domain_stamps}
-use Rattle.archive_loading.specs.Standing.{ItemStands, NoItemStands, NoFrameStands, WasTaken}
+use Rattle.archive_loading.specs.Standing.{ItemStands, NoFrameStands, WasTaken}
 use Rattle.archive_loading.proofs.Framed.{stands_in}
 use Rattle.archive_loading.proofs.Frames.{out_of_place, whole_not_torn}
 use Rattle.archive_check.specs.Stamped.{Stamps, Holds, IsAt}
@@ -58,7 +58,7 @@ counted file bytes records offset k h b =
 pub begins : (file : FileId) (bytes : List ℕ) (records : List (List Moment)) → Holds file (drop 132 bytes) records → IsAt file bytes records 132 []
 begins file bytes records h = record { boundary = label_boundary bytes; behind = records; are = refl; rest = h }
 
-stands_next : (bytes : List ℕ) (at : ℕ) (p rest : List ℕ) → IsFrameable p → drop at bytes ≡ frame p ++ rest → Stands bytes p at (at + length p + 8)
+pub stands_next : (bytes : List ℕ) (at : ℕ) (p rest : List ℕ) → IsFrameable p → drop at bytes ≡ frame p ++ rest → Stands bytes p at (at + length p + 8)
 stands_next bytes at p rest fits is = record {
   fits = fits;
   front = take at bytes;
@@ -68,7 +68,7 @@ stands_next bytes at p rest fits is = record {
   ends = refl;
 }
 
-behind_frame : (bytes payload : List ℕ) (at next : ℕ) → (s : Stands bytes payload at next) → (drop at bytes ≡ frame payload ++ s.rest) × (drop next bytes ≡ s.rest)
+pub behind_frame : (bytes payload : List ℕ) (at next : ℕ) → (s : Stands bytes payload at next) → (drop at bytes ≡ frame payload ++ s.rest) × (drop next bytes ≡ s.rest)
 behind_frame bytes payload at next s =
     let here : drop at bytes ≡ frame payload ++ s.rest = ap (drop at) s.is ∙ drop_at s.front (frame payload ++ s.rest) at s.begins in
     let size : next ≡ at + length (frame payload) = omega (arith, s.ends, length-frame payload) in
@@ -172,13 +172,6 @@ module _ (bytes : List ℕ) (records : List (List Moment)) (at : ℕ) (front : L
       let same : n.has.0 ≡ x = one_item s.payload n.has.0 x s.stands.fits n.has.1 s.reads in
       let is : n.stamps ≡ stamp_of x ∷ [] = n.has.2 ∙ ap (λ y. stamp_of y ∷ []) same in
       subst (λ v. IsAt (Volume number) bytes records next (front ++ v ∷ [])) is n.place
-
-  -- in a volume's place no bytes are bad
-  pub never_bad : (number : ℕ) → IsAt (Volume number) bytes records at front → NoItemStands bytes at → (IsTorn (drop at bytes) → ⊥) → ⊥
-  never_bad number p none whole =
-      never_wrong (Volume number) bytes records at front p (λ payload next s.
-      let n : NextIs (Volume number) bytes records front payload next = next_at (Volume number) bytes records at front p payload next s in
-      none next n.has.0 (record { payload = payload; stands = s; reads = n.has.1 })) whole
 
 -- the index has no records here
 pub no_index : (bytes : List ℕ) (records : List (List Moment)) (at : ℕ) (front : List (List Moment)) → IsAt Index bytes records at front → records ≡ front

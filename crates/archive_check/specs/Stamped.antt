@@ -1,5 +1,6 @@
 -- The records of a file with their stamps, and places among them.
-use Rattle.std.specs.Prelude.{◌≡◌, ℕ, List, [], ◌∷◌, ◌++◌, length, drop, Option, Some, None, option_to_list}
+use Rattle.std.specs.Prelude.{◌≡◌, ◌⊎◌, ℕ, ◌<◌, ◌≤◌, List, [], ◌∷◌, ◌++◌, length, drop, Option, Some, None, option_to_list}
+use Rattle.pcp_base.specs.Fields.{number_at}
 use Rattle.pcp_base.specs.Time.{Moment}
 use Rattle.pcp_base.specs.declared.file.FileId.{FileId}
 use Rattle.pcp_base.specs.declared.file.FileId.TheVariants.{Meta, Index, Volume}
@@ -41,6 +42,12 @@ IsStep file bytes records front (Some step) = IsAt file bytes records step.1 (fr
 -- a step from an offset, whatever stands before it
 abbrev pub Steps : FileId → List ℕ → ℕ → Option (Option Moment × ℕ) → Type 0
 Steps file bytes at found = (records front : List (List Moment)) → IsAt file bytes records at front → IsStep file bytes records front found
+
+-- The words with which an item's record begins say its stamp and its length. Or the length is no record's, or more than is left, or they say
+-- no moment.
+abbrev pub IsHead : List ℕ → ℕ → Option (Moment × ℕ) → Type 0
+IsHead front left None = (number_at front 0 < 12) ⊎ (left < number_at front 0) ⊎ (2147483648 ≤ number_at front 4) ⊎ (1000000 ≤ number_at front 8)
+IsHead front left (Some head) = (head.0 ≡ record { sec = number_at front 4; usec = number_at front 8 }) × (head.1 ≡ number_at front 0) × (12 ≤ head.1) × (head.1 ≤ left)
 
 -- all stamps of records
 abbrev pub all_of : List (List Moment) → List Moment

@@ -1,14 +1,14 @@
 //! Steps over a file's records: Meta's, or a volume's.
-ghost use Rattle.std.specs.Prelude.{◌≡◌, ◌<◌, length, IfOk, IfErr, OnOk};
+ghost use Rattle.std.specs.Prelude.{◌≡◌, ◌+◌, ◌<◌, ◌≤◌, length, IfOk, IfErr, OnOk};
+ghost use Rattle.pcp_base.specs.Fields.{number_at};
 ghost use Rattle.pcp_base.specs.declared.file.FileId.TheVariants.{Meta, Volume};
 ghost use Rattle.pcp_model.specs.Disk.{contents_of};
-ghost use Rattle.pcp_model.specs.Payload.{stamp_of};
 ghost use Rattle.pcp_outside.specs.Devices.{IsNumbered};
 ghost use Rattle.archive_loading.specs.Looks.{Looks, Blames};
-ghost use Rattle.archive_check.specs.Stamped.{Steps};
+ghost use Rattle.archive_check.specs.Stamped.{Steps, IsHead};
 
-use archive_loading::{Lack, Next, Taken, next_record, stamp_in, take_frame};
-use pcp_base::{Item, NoMemory, Stamp};
+use archive_loading::{Lack, Taken, stamp_in, take_frame};
+use pcp_base::{NoMemory, Stamp, be32};
 use pcp_outside::{Disk, FileId};
 use std::alloc::Global;
 
@@ -22,13 +22,25 @@ pub fn numbered(number: u32) -> Result<(), NoMemory>
     Ok(())
 }
 
-fn stamp_of(item: &Item) -> Stamp
-    ensures { result ≡ stamp_of item.now }
+/// The word at a byte of these.
+fn word_at(front: &[u8], at: usize) -> u32
+    requires { at + 4 ≤ length front.now }
+    ensures { result ≡ number_at front.now at }
 {
-    match item {
-        Item::Sample(answer) => answer.stamp,
-        Item::Mark(stamp) => *stamp,
+    be32(front, at).unwrap_or(0)
+}
+
+/// The stamp and the length of the item's record that begins with these 12 bytes, where so many are left of its file.
+fn head_in(front: &[u8], left: u64) -> Option<(Stamp, u64)>
+    requires { length front.now ≡ 12 }
+    ensures { IsHead front.now left result }
+{
+    let size = u64::from(word_at(front, 0));
+    if size < 12 || left < size {
+        return None;
     }
+    let stamp = Stamp::build(word_at(front, 4), word_at(front, 8))?;
+    Some((stamp, size))
 }
 
 /// The stamp of a domain's record of Meta.
@@ -54,9 +66,8 @@ fn meta_step<D: Disk>(
     }
 }
 
-/// The stamp of an item's record of a volume.
+/// The stamp of an item's record of a volume. Its first 12 bytes are taken, and no others.
 fn volume_step<D: Disk>(
-    alloc: Global,
     disk: &mut D,
     number: u32,
     end: u64,
@@ -69,10 +80,14 @@ fn volume_step<D: Disk>(
     ensures cause { IfErr result (Blames D.Disk disk.old disk.new) }
     ensures quiet { OnOk result (D.faults disk.new ≡ D.faults disk.old) }
 {
-    match next_record(alloc, disk, number, end, at)? {
-        Next::End => Ok(None),
-        Next::Bad => Ok(None),
-        Next::Item(item, next) => Ok(Some((Some(stamp_of(&item)), next))),
+    if at >= end || end - at < 12 {
+        return Ok(None);
+    }
+    let mut front = [0; 12];
+    disk.read(FileId::Volume(number), at, &mut front)?;
+    match head_in(&front, end - at) {
+        Some(head) => Ok(Some((Some(head.0), at + head.1))),
+        None => Ok(None),
     }
 }
 
@@ -94,6 +109,6 @@ pub fn step<D: Disk>(
     match file {
         FileId::Meta => meta_step(alloc, disk, end, at),
         FileId::Index => Ok(None),
-        FileId::Volume(number) => volume_step(alloc, disk, number, end, at),
+        FileId::Volume(number) => volume_step(disk, number, end, at),
     }
 }
