@@ -130,7 +130,7 @@ module _ {D : Type 0} (d : DiskGhosts D) (script : Script) (server : List Mounte
         ∙ ap (λ (lines : List ℕ). told_behind r.ending lines (is.sampler.session.logged - lost)) cut.output
         ∙ ap (λ (n : ℕ). told_behind r.ending cut.state.output n) many
         ∙ told_is r.ending cut.state;
-    further = record { lines = came.count; state = came.last; ran = came.ran; on = cut.on; same = λ other. cut.same (unlost other) };
+    further = record { lines = came.count; state = came.last; ran = came.ran; on = cut.on; same = λ other. cut.same (unlost other); before = cut.before };
     closed = refl;
   }
 

@@ -13,7 +13,7 @@ use Rattle.logging_session.specs.Events.{Event, items_by, logged_all, opening}
 use Rattle.logging_session.specs.Written.{Report}
 use Rattle.logging_session.proofs.Events.{opening_items}
 use Rattle.run_script.specs.declared.script.Script.{Script}
-use Rattle.script_runs.specs.Runs.{FailsBehind, Loses, RanFirst}
+use Rattle.script_runs.specs.Runs.{EndsBefore, FailsBehind, Loses, RanFirst}
 use Rattle.script_runs.specs.Steps.{RunState}
 use Rattle.run_archive.specs.Endings.{before_lost, up_to_mark}
 use Rattle.record_run.specs.States.{AreMarked, Leads}
@@ -54,6 +54,7 @@ module _ (script : Script) (count : ℕ) (last : RunState) (marks : List ℕ) wh
     pub ran : RanFirst script lines state
     pub on : lines ≤ count
     pub same : many ≡ 0 → (count ≡ lines) × (last ≡ state)
+    pub before : EndsBefore script lines state count last
     pub output : before_lost marks many last.output ≡ state.output
     pub counted : length (items_by last.events) - many ≡ length (items_by state.events)
     pub loses : (limit : ℕ) (left : Files) (all : List Event) → FailsBehind script count last all → Leads limit left all → LosesOf limit left lines state all
@@ -65,6 +66,7 @@ module _ (script : Script) (count : ℕ) (last : RunState) (marks : List ℕ) wh
     ran = ran;
     on = omega arith;
     same = λ none. (refl, refl);
+    before = inl (refl, refl);
     output = let past : slice_get marks (length marks - 0) ≡ None = slice_get_past marks (length marks - 0) (omega arith) in ap (λ (mark : Option ℕ). up_to_mark mark last.output) past;
     counted = omega arith;
     loses = λ limit left all did leads.
@@ -112,6 +114,7 @@ module _ (script : Script) (count : ℕ) (last : RunState) (marks : List ℕ) wh
       ran = m.is.ran;
       on = let later = m.is.on in omega (arith, later);
       same = λ none. absurd (some none);
+      before = inr (m.is.next.0, m.is.next.1, m.is.next.2, (m.is.next.3.0, m.more, events_are ∙ ap (λ (r : Report). first ++ logged_all (r ∷ m.more)) m.is.next.3.1));
       output = mark_output;
       counted = mark_counted;
       loses = λ limit left all did leads.

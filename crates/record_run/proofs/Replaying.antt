@@ -69,7 +69,7 @@ module _ (script : Script) (server : List Mounted) (seat : List Token) (r : Repl
       ran = ran_none script;
       halts = subst (λ (e : Ending). Halts script 0 (run_start script) e) (sym is) (halts_before fault);
       output_is = nothing ∙ sym (ap (λ (e : Ending). with_end e (run_start script)) is ∙ tells_nothing fault);
-      further = record { lines = 0; state = run_start script; ran = ran_none script; on = omega arith; same = λ other. (refl, refl) };
+      further = record { lines = 0; state = run_start script; ran = ran_none script; on = omega arith; same = λ other. (refl, refl); before = inl (refl, refl) };
       closed = refl;
     };
     counted = none;

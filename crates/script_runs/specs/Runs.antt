@@ -130,14 +130,22 @@ abbrev pub with_end : Ending → RunState → List ℕ
 with_end ends.Done s = s.output ++ one_number (codes "logged") (length (items_by s.events))
 with_end ending s = s.output
 
+-- These lines, so many, are all that were run up to that state, or those before a tick: what that one shows was logged, and behind it nothing
+-- but results.
+abbrev pub EndsBefore : Script → ℕ → RunState → ℕ → RunState → Type 0
+EndsBefore script count last lines t =
+    ((lines ≡ count) × (t ≡ last))
+    ⊎ Next script count (λ at line. (x : Shows script last line) × (rest : List Report) × (t.events ≡ opening x.now last.events ++ logged_all (report_of (shown x) ∷ rest)))
+
 -- How far its lines were run on the regions. Results are judged at their ticks and written several at a time: so a disk that fails may end a
--- run at an earlier tick than the last line that was run.
+-- run at an earlier tick than the last line that was run, since the last results are lost.
 pub record RanOn (script : Script) (ending : Ending) (count : ℕ) (last : RunState) : Type 0 where
   pub lines : ℕ
   pub state : RunState
   pub ran : RanFirst script lines state
   pub on : count ≤ lines
   pub same : ending ≢ ends.DiskFault → (lines ≡ count) × (state ≡ last)
+  pub before : EndsBefore script count last lines state
 
 -- What a run does, over any disk: its first lines were run, so many, and then it ended so, with these lines written and its regions closed.
 pub record RanTo (script : Script) (ending : Ending) (output : List ℕ) (regions : List ScriptRegion) : Type 0 where
