@@ -1,5 +1,5 @@
 -- The run of a script over any files.
-use Rattle.std.proofs.Common.{◌≡◌, ◌≢◌, ℕ, ◌≤◌, List, [], refl, sym, ap, ◌∙◌, subst, arith}
+use Rattle.std.proofs.Common.{◌≡◌, ◌≢◌, inl, ℕ, ◌≤◌, List, [], refl, sym, ap, ◌∙◌, subst, arith}
 use Rattle.pcp_model.specs.Disk.{CrashImage, Files, contents_of}
 use Rattle.pcp_outside.specs.Causes.{Rose}
 use Rattle.pcp_outside.specs.Devices.{LeavesOnly}
