@@ -4,7 +4,7 @@
 usage: measure.py PROGRAM [TICKS [FOLDER]]                TICKS: 100,000 unless given
 
 It makes the generated archive of TICKS results (174 MB at 100,000) in memory-backed storage, and prints how long each command takes, the
-best of three runs, and the most memory that it had; behind it the tool of the package that does the like, on the same files with the
+best of three runs, with its processor time (which other work beside it changes less) and the most memory that it had; behind it the tool of the package that does the like, on the same files with the
 entry in front that its readers want. It also replays a script of as many ticks, one with a flush behind each, and checks an index of
 1,000,000 entries; and counts the calls by which runs write and sync, where strace(1) is installed. With a FOLDER the archives stand there, so that
 syncs are a disk's. Nothing here is a promise: another machine gives other figures.
@@ -21,7 +21,7 @@ RUNS = 3
 
 
 def run(words, folder, given=None):
-    """Returns a command's status, seconds, peak of memory in MiB, and the last line that it wrote."""
+    """Returns a command's status, seconds, seconds of processor time, peak of memory in MiB, and the last line that it wrote."""
     with open(f"{folder}/out", "wb") as out, open(given or os.devnull, "rb") as source:
         begun = time.perf_counter()
         child = subprocess.Popen(words, stdin=source, stdout=out, stderr=subprocess.DEVNULL, cwd=folder)
@@ -30,7 +30,7 @@ def run(words, folder, given=None):
     with open(f"{folder}/out", "rb") as out:
         out.seek(max(0, os.path.getsize(f"{folder}/out") - 200))
         last = (out.read().split(b"\n")[-2:] or [b""])[0].decode(errors="replace")
-    return os.waitstatus_to_exitcode(status), took, usage.ru_maxrss / 1024, last
+    return os.waitstatus_to_exitcode(status), took, usage.ru_utime + usage.ru_stime, usage.ru_maxrss / 1024, last
 
 
 def told(what, words, folder, given=None, runs=RUNS, before=None):
@@ -40,8 +40,8 @@ def told(what, words, folder, given=None, runs=RUNS, before=None):
         if before:
             before()
         found.append(run(words, folder, given))
-    status, took, memory, last = min(found, key=lambda it: it[1])
-    print(f"{what:46} {took:9.3f} s {memory:8.1f} MiB  status {status}  {last[:40]}", flush=True)
+    status, took, used, memory, last = min(found, key=lambda it: it[1])
+    print(f"{what:46} {took:9.3f} s {used:9.3f} s of a processor {memory:8.1f} MiB  status {status}  {last[:40]}", flush=True)
     return took
 
 
@@ -79,7 +79,7 @@ def calls(what, words, folder, given=None):
     """Prints how often a command makes each of the calls that write and sync, and all calls that it makes."""
     if not shutil.which("strace"):
         return
-    status, _, _, _ = run(["strace", "-f", "-c", "-U", "name,calls", "-o", f"{folder}/counts", *words], folder, given)
+    status, *_ = run(["strace", "-f", "-c", "-U", "name,calls", "-o", f"{folder}/counts", *words], folder, given)
     with open(f"{folder}/counts", encoding="ascii") as it:
         rows = dict(line.split() for line in it if len(line.split()) == 2 and line.split()[1].isdigit())
     os.remove(f"{folder}/counts")

@@ -107,6 +107,7 @@ class Bench:
         self.base = os.path.join(top, "arch")
         self.given, self.said = os.path.join(top, "in"), os.path.join(top, "out")
         self.child = 0
+        self.judged = {}
         signal.signal(signal.SIGALRM, lambda *_: self.child and os.kill(self.child, signal.SIGKILL))
 
     def run(self, *words, given=b"", env=None):
@@ -150,7 +151,14 @@ class Bench:
                 it.write(held)
 
     def items(self):
-        """The items of the archive behind recovery, as they are printed; and what is wrong with it."""
+        """The items of the archive behind recovery, as they are printed; and what is wrong with it. The same files are recovered once."""
+        found = tuple(sorted(self.files().items()))
+        if found not in self.judged:
+            self.judged[found] = self.recovered()
+        return self.judged[found]
+
+    def recovered(self):
+        """The items behind recovery, and what is wrong with it."""
         status, said = self.run("recover")
         if status:
             return [], f"recover answers {status} {said!r}"
@@ -184,7 +192,7 @@ def examples(bench):
         (("once", "200", "0", "web"), wide, TORN),
         (("replay", "1024"), SCRIPT, {}),
         (("replay", "1024"), TICKS, old),
-        (("make", "7", "20", "1048576"), b"", {}),
+        (("make", "7", "6", "1048576"), b"", {}),
         (("record", "1", "1048576"), COUNTER, old),
         (("recover",), b"", TWO),
         (("recover",), b"", TORN),
