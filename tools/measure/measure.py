@@ -22,15 +22,22 @@ RUNS = 3
 
 def run(words, folder, given=None):
     """Returns a command's status, seconds, seconds of processor time, peak of memory in MiB, and the last line that it wrote."""
+    # The peak that wait4(2) tells is at least this script's own, so that time(1) is asked where it is installed.
+    asked = ["time", "-q", "-f", "%M", "-o", f"{folder}/peak"] if shutil.which("time") else []
     with open(f"{folder}/out", "wb") as out, open(given or os.devnull, "rb") as source:
         begun = time.perf_counter()
-        child = subprocess.Popen(words, stdin=source, stdout=out, stderr=subprocess.DEVNULL, cwd=folder)
+        child = subprocess.Popen([*asked, *words], stdin=source, stdout=out, stderr=subprocess.DEVNULL, cwd=folder)
         _, status, usage = os.wait4(child.pid, 0)
         took = time.perf_counter() - begun
     with open(f"{folder}/out", "rb") as out:
         out.seek(max(0, os.path.getsize(f"{folder}/out") - 200))
         last = (out.read().split(b"\n")[-2:] or [b""])[0].decode(errors="replace")
-    return os.waitstatus_to_exitcode(status), took, usage.ru_utime + usage.ru_stime, usage.ru_maxrss / 1024, last
+    peak = usage.ru_maxrss
+    if asked:
+        with open(f"{folder}/peak", encoding="ascii") as it:
+            peak = int(it.read())
+        os.remove(f"{folder}/peak")
+    return os.waitstatus_to_exitcode(status), took, usage.ru_utime + usage.ru_stime, peak / 1024, last
 
 
 def told(what, words, folder, given=None, runs=RUNS, before=None):

@@ -11,7 +11,7 @@ A run to which memory was refused must be told: status 9, and of its output a fr
 `disk fault`, where the files' own object wanted the memory, as for a file's name; or it is whole, with the output and the files of
 a run to which nothing was refused. What a command says of lines of a script that it ran then stands: `recover` mends the files, and `dump` shows
 all items from before and then the first ones of the run, of `replay` as many as it told; and `check` finds them sound. A
-command that reads leaves the files as they were. It takes about a minute."""
+command that reads leaves the files as they were. It makes some 14,000 runs in half a minute."""
 import os, re, shutil, signal, struct, subprocess, sys, tempfile
 
 HERE = os.path.dirname(os.path.realpath(__file__))
