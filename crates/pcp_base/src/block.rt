@@ -1,10 +1,11 @@
 //! Values that are kept outside their set, each with a type code (pmFetch(3)).
 
-ghost use Rattle.std.specs.Prelude.{◌≡◌, ◌≤◌, ◌<◌, length, MatchOption};
+ghost use Rattle.std.specs.Prelude.{◌≡◌, ◌+◌, ◌≤◌, ◌<◌, length, take, drop, MatchOption, IfOk};
 
 use crate::duplicate::Duplicate;
 use crate::list::Bytes;
 use crate::memory::NoMemory;
+use crate::shared::Shared;
 use std::alloc::Global;
 use std::marker::Model;
 
@@ -12,19 +13,49 @@ use std::marker::Model;
 /// length with the header of 4 bytes fits 24 bits.
 #[derive(Drop)]
 pub struct Block {
-    code: u8,
-    bytes: Bytes,
+    held: Held,
+}
+
+/// Where a block's bytes lie: in memory of their own, or at a place among bytes that others hold too. The code stands
+/// in each, so that a block takes 32 bytes.
+enum Held {
+    Own {
+        code: u8,
+        bytes: Bytes,
+    },
+    Within {
+        code: u8,
+        size: u32,
+        from: usize,
+        shared: Shared,
+    },
+}
+
+// Written out, so that to let a block go is one call, and no choice, for whoever does.
+impl Drop for Held {
+    fn drop(self) {
+        match self {
+            Held::Own { code: _, bytes: _ } => (),
+            Held::Within {
+                code: _,
+                size: _,
+                from: _,
+                shared: _,
+            } => (),
+        }
+    }
 }
 
 impl Model for Block {
-    ghost use Rattle.std.specs.Prelude.{◌≤◌, length};
     ghost use Rattle.pcp_base.specs.Typed.{TypedBytes};
 
     ghost Value = { TypedBytes };
 
-    ghost view = { λ a. record { code = a.code; bytes = a.bytes } };
+    ghost use Rattle.pcp_base.specs.Held.{typed, IsHeld};
 
-    ghost invariant = { λ a. length a.bytes ≤ 16777211 };
+    ghost view = { λ a. typed a.held };
+
+    ghost invariant = { λ a. IsHeld a.held };
 }
 
 impl Block {
@@ -35,14 +66,37 @@ impl Block {
         if bytes.len() > 16_777_211 {
             return None;
         }
-        Some(Block { code, bytes })
+        Some(Block {
+            held: Held::Own { code, bytes },
+        })
+    }
+
+    /// The block of `size` bytes behind the first `from` of these, which it holds with others and doesn't copy. It is
+    /// refused only where too many hold them.
+    pub fn within(code: u8, shared: &Shared, from: usize, size: u32) -> Result<Block, NoMemory>
+        requires place { from + size ≤ length shared.now }
+        requires short { size ≤ 16777211 }
+        ensures { IfOk result (λ b. b ≡ record { code = code; bytes = take size (drop from shared.now) }) }
+    {
+        let shared = shared.share()?;
+        Ok(Block {
+            held: Held::Within {
+                code,
+                size,
+                from,
+                shared,
+            },
+        })
     }
 
     /// The type code as it stands beside the bytes; any value may (pmFetch(3)).
     pub fn code(&self) -> u8
         ensures { result ≡ self.now.code }
     {
-        self.code
+        match &self.held {
+            Held::Own { code, .. } => *code,
+            Held::Within { code, .. } => *code,
+        }
     }
 
     /// The bytes, at most 16,777,211.
@@ -50,16 +104,34 @@ impl Block {
         ensures value { result.now ≡ self.now.bytes }
         ensures range { length self.now.bytes ≤ 16777211 }
     {
-        self.bytes.as_slice()
+        match &self.held {
+            Held::Own { bytes, .. } => bytes.as_slice(),
+            Held::Within {
+                size,
+                from,
+                shared,
+                ..
+            } => { &shared.as_slice()[*from..*from + *size as usize] }
+        }
     }
 }
 
+/// Bytes that others hold too aren't copied: the copy holds them as well.
 impl Duplicate for Block {
     fn copy(&self, alloc: Global) -> Result<Self, NoMemory> {
-        let bytes = self.bytes.copy(alloc)?;
-        Ok(Block {
-            code: self.code,
-            bytes,
-        })
+        match &self.held {
+            Held::Own { code, bytes } => {
+                let bytes = bytes.copy(alloc)?;
+                Ok(Block {
+                    held: Held::Own { code: *code, bytes },
+                })
+            }
+            Held::Within {
+                code,
+                size,
+                from,
+                shared,
+            } => { Block::within(*code, shared, *from, *size) }
+        }
     }
 }

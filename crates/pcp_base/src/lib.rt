@@ -14,6 +14,7 @@ mod list;
 mod memory;
 mod names;
 mod result;
+mod shared;
 mod stamp;
 mod text;
 
@@ -28,5 +29,6 @@ pub use list::{Bytes, List};
 pub use memory::NoMemory;
 pub use names::{is_component, is_name, spells_component};
 pub use result::{Body, Item, PmResult, ValueSet};
+pub use shared::Shared;
 pub use stamp::Stamp;
 pub use text::{Text, TextError, Zero};
