@@ -1,17 +1,17 @@
 -- What reading comes to, case by case: words, sets, pairs and their blocks.
-use Rattle.std.proofs.Common.{◌≡◌, ℕ, ℤ, zero, suc, ◌+◌, ◌-◌, ◌*◌, ◌/◌, ◌%◌, ◌<◌, ◌≤◌, Bool, true, false, cond, ltb, eqb, leb, max, List, [], ◌∷◌, length, take, drop, Some, None, Result, Ok, Err, refl, sym, ap, ◌∙◌, arith, inl, inr}
+use Rattle.std.proofs.Common.{◌≡◌, ℕ, ℤ, zero, suc, ◌+◌, ◌-◌, ◌*◌, ◌/◌, ◌%◌, ◌<◌, ◌≤◌, Bool, true, false, cond, ltb, eqb, leb, List, length, Some, None, Result, Ok, Err, refl, ap, ◌∙◌, arith, inl, inr}
 use Rattle.std.specs.Prelude.{◌⊎◌, ◌||◌}
 use Rattle.std.specs.Int.{w32, cast_signed}
-use Rattle.std.proofs.lemmas.Bool.{lt-ltb, le-ltb, eq-eqb, ne_eqb}
+use Rattle.std.proofs.lemmas.Bool.{lt-ltb, le-ltb, ne_eqb}
 use Rattle.pcp_base.specs.Fields.{number_at}
 use Rattle.pcp_base.specs.Typed.{TypedBytes}
 use Rattle.result_form.specs.declared.fault.FormFault.{FormFault}
-use Rattle.result_form.specs.declared.fault.FormFault.TheVariants.{Short, Stamp, Count, Mode, Offset, Block, Trailing}
+use Rattle.result_form.specs.declared.fault.FormFault.TheVariants.{Short, Mode, Offset, Block}
 use Rattle.result_form.specs.declared.fields.Run.{Run}
 use Rattle.result_form.specs.declared.fields.Counted.{Counted}
 use Rattle.result_form.specs.declared.fields.Counted.TheVariants as counted
 use Rattle.result_form.specs.Decoding.{◌>>=◌, or_short, word_at, word_below, run_at, counted_at, run_end, end_of, set_end, pair_at, block_of_head, padded_size, block_at, offset_block, offset_pair}
-use Rattle.result_form.specs.Faults.{IsStatus, HasValues, HasMode, pairs_end, block_begin, block_size, block_end, LeadsIn, IsWhole}
+use Rattle.result_form.specs.Faults.{IsStatus, HasValues, HasMode, pairs_end, block_begin, block_end, LeadsIn, IsWhole}
 use Rattle.result_form.proofs.Again.{low_test, high_test}
 
 abbrev pub done : {A : Type 0} → A → Result A FormFault

@@ -1,6 +1,6 @@
 -- What reading comes to is what the payload has: all stands, or this is its fault.
 use Rattle.std.proofs.Common.{◌≡◌, ℕ, ℤ, zero, suc, ◌+◌, ◌-◌, ◌*◌, ◌/◌, ◌%◌, ◌<◌, ◌≤◌, cond, ltb, max, List, [], ◌∷◌, length, Result, Ok, Err, refl, sym, ap, ◌∙◌, subst, arith, inl, inr}
-use Rattle.std.specs.Prelude.{◌⊎◌, IfErr}
+use Rattle.std.specs.Prelude.{IfErr}
 use Rattle.std.specs.Int.{w32, cast_signed}
 use Rattle.std.proofs.lemmas.Bool.{cases_lt, lt-ltb, le-ltb}
 use Rattle.pcp_base.specs.Fields.{number_at}
@@ -14,8 +14,8 @@ use Rattle.result_form.specs.declared.fault.FormFault.{FormFault}
 use Rattle.result_form.specs.declared.fault.FormFault.TheVariants.{Short, Stamp, Count, Mode, Offset, Block, Trailing, NoMemory}
 use Rattle.result_form.specs.declared.fields.Counted.{Counted}
 use Rattle.result_form.specs.declared.fields.Counted.TheVariants as counted
-use Rattle.result_form.specs.Decoding.{◌>>=◌, Gives, word_at, word_below, stamp_of, counted_at, set_end, sets_end, pair_at, values_from, offset_pair, blocks_from, body_of, set_at, sets_from, payload_result}
-use Rattle.result_form.specs.Faults.{IsStatus, HasValues, HasMode, HasBlocks, HasHead, pairs_end, SetStands, SetsStand, IsSetFault, IsSetsFault, block_begin, block_end, LeadsIn, IsWhole, IsPairFault, PairsReach, IsPairsFault, SetReaches, SetsReach, IsBlocksFault, IsHeadFault, IsEndFault, IsFault, IsFormFault}
+use Rattle.result_form.specs.Decoding.{◌>>=◌, Gives, word_below, stamp_of, counted_at, set_end, sets_end, values_from, offset_pair, blocks_from, body_of, set_at, sets_from, payload_result}
+use Rattle.result_form.specs.Faults.{IsStatus, HasValues, HasMode, HasBlocks, HasHead, pairs_end, SetStands, SetsStand, IsSetFault, IsSetsFault, block_begin, block_end, LeadsIn, IsWhole, PairsReach, IsPairsFault, SetReaches, SetsReach, IsBlocksFault, IsFault, IsFormFault}
 use Rattle.result_form.proofs.FaultRules.{done, word_stands, below_stands, below_ends, below_fails, ends_in_metric, ends_in_number, is_status, ends_in_mode, is_bad_mode, ends_in_pairs, pairs_stand, counts_status, counts_in_place, counts_blocks, pair_stands, leads_out, is_bad_block, block_stands, pair_found, run_made}
 
 -- ---- the words of sets

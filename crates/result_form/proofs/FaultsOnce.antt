@@ -1,5 +1,5 @@
 -- A fault that a payload has is the one that reading comes to; so there is exactly one.
-use Rattle.std.proofs.Common.{◌≡◌, ℕ, ℤ, zero, suc, ◌+◌, ◌-◌, ◌*◌, ◌/◌, ◌%◌, ◌<◌, ◌≤◌, cond, ltb, max, List, [], ◌∷◌, length, Result, Ok, Err, refl, sym, ap, ◌∙◌, subst, arith, inl, inr}
+use Rattle.std.proofs.Common.{◌≡◌, ℕ, ℤ, zero, suc, ◌+◌, ◌-◌, ◌*◌, ◌/◌, ◌<◌, ◌≤◌, cond, max, List, [], ◌∷◌, length, Result, Ok, Err, refl, sym, ap, ◌∙◌, subst, arith, inl, inr}
 use Rattle.std.specs.Prelude.{◌⊎◌}
 use Rattle.std.specs.Int.{w32, cast_signed}
 use Rattle.std.proofs.lemmas.Bool.{cases_lt, lt-ltb}
@@ -12,9 +12,9 @@ use Rattle.pcp_base.specs.declared.result.ValueSet.{ValueSet}
 use Rattle.pcp_base.specs.declared.result.PmResult.{PmResult}
 use Rattle.pcp_model.specs.Payload.{IsPayload}
 use Rattle.result_form.specs.declared.fault.FormFault.{FormFault}
-use Rattle.result_form.specs.declared.fault.FormFault.TheVariants.{Short, Stamp, Count, Mode, Offset, Block, Trailing, NoMemory}
+use Rattle.result_form.specs.declared.fault.FormFault.TheVariants.{Short, Stamp, Count, Mode, Offset, Block, Trailing}
 use Rattle.result_form.specs.Decoding.{◌>>=◌, word_below, stamp_of, set_end, sets_end, offset_pair, blocks_from, set_at, sets_from, payload_result}
-use Rattle.result_form.specs.Faults.{IsStatus, HasValues, HasMode, HasBlocks, HasSeconds, HasStamp, HasHead, pairs_end, SetStands, SetsStand, IsPairWord, IsSetFault, IsSetsFault, block_end, IsPairFault, PairsReach, IsPairsFault, SetReaches, SetsReach, IsBlocksFault, IsHeadFault, IsEndFault, IsFault}
+use Rattle.result_form.specs.Faults.{HasValues, HasMode, HasBlocks, HasSeconds, HasStamp, HasHead, pairs_end, SetStands, SetsStand, IsPairWord, IsSetFault, IsSetsFault, block_end, IsPairFault, PairsReach, IsPairsFault, SetReaches, SetsReach, IsBlocksFault, IsHeadFault, IsEndFault, IsFault}
 use Rattle.result_form.specs.Laws.{FaultsComeOnce}
 use Rattle.result_form.proofs.Again.{payload_again}
 use Rattle.result_form.proofs.Whole.{payload_takes}

@@ -5,7 +5,7 @@ pub mod FaultsOnce
 pub mod Loops
 pub mod Pairs
 pub mod Ranged
-pub mod Rooms
 pub mod Sets
 pub mod Spans
+pub mod Tails
 pub mod Whole

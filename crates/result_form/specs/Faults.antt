@@ -1,7 +1,6 @@
 -- Why bytes are no payload of a result (pmFetch(3), LOGARCHIVE(5)). First its words are looked at in their order, then the
 -- blocks in the order of the pairs that lead to them, and last where the payload ends.
-use Rattle.std.specs.Prelude.{◌≡◌, ◌⊎◌, ℕ, zero, suc, ◌+◌, ◌*◌, ◌%◌, ◌<◌, ◌≤◌, List, length, take, drop, max}
-use Rattle.std.specs.Int.{w32, from_be_bytes}
+use Rattle.std.specs.Prelude.{◌≡◌, ◌⊎◌, ℕ, zero, suc, ◌+◌, ◌*◌, ◌%◌, ◌<◌, ◌≤◌, List, length, max}
 use Rattle.pcp_base.specs.Fields.{number_at}
 use Rattle.pcp_model.specs.Payload.{offset_byte}
 use Rattle.result_form.specs.Decoding.{padded_size}

@@ -2,4 +2,3 @@ pub mod Decoding
 pub mod Faults
 pub mod Laws
 pub mod Ranges
-pub mod Room

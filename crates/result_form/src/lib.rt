@@ -8,7 +8,6 @@ mod fault;
 mod fields;
 mod laws;
 mod reading;
-mod room;
 mod sizes;
 mod spelling;
 mod writing;

@@ -1,16 +1,23 @@
 //! The reader of a payload.
-ghost use Rattle.std.specs.Prelude.{◌≡◌, ◌+◌, ◌≤◌, IfOk, IfErr, Ok};
-ghost use Rattle.pcp_model.specs.Payload.{IsPayload, blocks_in, blocks_of};
+ghost use Rattle.std.specs.Prelude.{◌≡◌, ◌≤◌, length, drop, IfOk, IfErr, Ok};
+ghost use Rattle.pcp_model.specs.Payload.{IsPayload};
 ghost use Rattle.result_form.specs.Decoding.{Gives, set_at, sets_from, payload_result};
 ghost use Rattle.result_form.specs.Faults.{IsFormFault};
-ghost use Rattle.result_form.specs.Room.{memory_of};
 
 use crate::blocks::body_of;
 use crate::fault::FormFault;
 use crate::fields::{counted_at, set_end, sets_end, stamp_of, word_at, word_below};
-use crate::room::{Room, whole_room};
-use pcp_base::{List, PmResult, Pmid, ValueSet};
+use pcp_base::{Bytes, List, NoMemory, PmResult, Pmid, Shared, ValueSet};
 use std::alloc::Global;
+
+/// What stands behind the sets, in memory that the blocks read there hold together.
+fn tail_of(alloc: Global, payload: &[u8], sets_end: usize) -> Result<Shared, NoMemory>
+    requires { sets_end ≤ length payload.now }
+    ensures { IfOk result (λ tail. tail ≡ drop sets_end payload.now) }
+{
+    let bytes = Vec::from_slice(alloc, &payload[sets_end..])?;
+    Shared::build(Bytes::from_vec(bytes))
+}
 
 /// The set at a byte, and the greatest end with those of its blocks.
 #[tactic(auto, unfolding(crate::specs::Decoding::set_at))]
@@ -18,16 +25,16 @@ fn set_at(
     alloc: Global,
     payload: &[u8],
     sets_end: usize,
+    tail: &Shared,
     reached: usize,
     at: usize,
-    room: &mut Room,
 ) -> Result<(ValueSet, usize), FormFault>
-    ensures set { Gives result (set_at payload.now sets_end reached at) }
-    ensures room { IfOk result (λ found. room.new.left + memory_of (blocks_in found.0.body) ≡ room.old.left) }
+    requires { tail.now ≡ drop sets_end payload.now }
+    ensures { Gives result (set_at payload.now sets_end reached at) }
 {
     let pmid = Pmid::of_word(word_at(payload, at)?);
     let counted = counted_at(payload, at + 4)?;
-    let (body, reach) = body_of(alloc, payload, sets_end, reached, counted, room)?;
+    let (body, reach) = body_of(alloc, payload, sets_end, tail, reached, counted)?;
     Ok((ValueSet { pmid, body }, reach))
 }
 
@@ -37,18 +44,18 @@ fn sets_from(
     alloc: Global,
     payload: &[u8],
     sets_end: usize,
+    tail: &Shared,
     count: u32,
     from: usize,
-    room: &mut Room,
 ) -> Result<(List<ValueSet>, usize), FormFault>
-    ensures sets { Gives result (sets_from payload.now sets_end sets_end count from) }
-    ensures room { IfOk result (λ found. room.new.left + memory_of (blocks_of found.0) ≡ room.old.left) }
+    requires { tail.now ≡ drop sets_end payload.now }
+    ensures { Gives result (sets_from payload.now sets_end sets_end count from) }
 {
     let mut at = from;
     let mut reach = sets_end;
     let mut sets = List::empty(alloc);
     for _ in 0..count {
-        let (set, end) = set_at(alloc, payload, sets_end, reach, at, room)?;
+        let (set, end) = set_at(alloc, payload, sets_end, tail, reach, at)?;
         at = set_end(payload, at)?;
         sets.push(set)?;
         reach = end;
@@ -60,13 +67,12 @@ fn sets_from(
 #[tactic(auto, unfolding(crate::specs::Decoding::payload_result))]
 fn read(alloc: Global, payload: &[u8]) -> Result<PmResult, FormFault>
     ensures answer { Gives result (payload_result payload.now) }
-    ensures room { IfOk result (λ r. memory_of (blocks_of r.sets) ≤ 268435456) }
 {
     let stamp = stamp_of(payload)?;
     let count = word_below(payload, 8, 1 << 31, FormFault::Count { at: 8 })?;
     let end = sets_end(payload, count, 12)?;
-    let mut room = whole_room();
-    let (sets, reach) = sets_from(alloc, payload, end, count, 12, &mut room)?;
+    let tail = tail_of(alloc, payload, end)?;
+    let (sets, reach) = sets_from(alloc, payload, end, &tail, count, 12)?;
     if reach < payload.len() {
         return Err(FormFault::Trailing { at: reach as u64 });
     }
@@ -74,8 +80,8 @@ fn read(alloc: Global, payload: &[u8]) -> Result<PmResult, FormFault>
 }
 
 /// The result of a payload. The blocks may stand anywhere behind the last set, shared and out of order, with any
-/// padding; a refusal tells the first fault and its offset, or that memory was refused. Where offsets lead to blocks of
-/// more than 256 MiB together, with 64 bytes for each, memory is refused before more of them are kept.
+/// padding; a refusal tells the first fault and its offset, or that memory was refused. What stands behind the sets is
+/// copied once, and each block is a place in it, however often offsets lead to it.
 pub fn decode(alloc: Global, payload: &[u8]) -> Result<PmResult, FormFault>
     // What is read is what the payload spells.
     ensures found { IfOk result (λ r. IsPayload payload.now r) }
@@ -83,8 +89,6 @@ pub fn decode(alloc: Global, payload: &[u8]) -> Result<PmResult, FormFault>
     ensures only { (r : PmResult) → IsPayload payload.now r → Gives result (Ok r) }
     // Which fault it is: the first of the words in their order, of the blocks in the order of the pairs, or at the end.
     ensures fault { IfErr result (IsFormFault payload.now) }
-    // Its blocks take at most 256 MiB, however often the payload leads to one of them.
-    ensures room { IfOk result (λ r. memory_of (blocks_of r.sets) ≤ 268435456) }
 {
     read(alloc, payload)
 }
