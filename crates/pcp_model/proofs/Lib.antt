@@ -4,7 +4,10 @@ pub mod CutArchive
 pub mod CutSound
 pub mod Cuts
 pub mod CutsOfAny
+pub mod Fields
+pub mod InstancesRead
 pub mod Lengths
+pub mod Listed
 pub mod Lists
 pub mod OneItem
 pub mod OneReading
@@ -15,3 +18,4 @@ pub mod Recovered
 pub mod Sound
 pub mod Spelled
 pub mod Unique
+pub mod ZeroBytes

@@ -1,9 +1,9 @@
 -- The payload of a record of Meta is read as one record.
-use Rattle.std.proofs.Common.{◌≡◌, ℕ, ℤ, ◌+◌, ◌*◌, ◌<◌, List, [], ◌∷◌, ◌++◌, length, take, drop, refl, sym, ap, ◌∙◌, subst, append_assoc, arith, length-append, length-drop}
+use Rattle.std.proofs.Common.{◌≡◌, ℕ, ℤ, ◌+◌, ◌*◌, ◌<◌, List, [], ◌∷◌, ◌++◌, length, take, refl, sym, ap, ◌∙◌, subst, append_assoc, arith, length-append}
 use Rattle.std.specs.Prelude.{FitsSigned}
 use Rattle.std.specs.Int.{w32, from_be_bytes}
 use Rattle.std.specs.List.{AllByRecursion}
-use Rattle.std.proofs.lemmas.List.{take_at, take-append-drop, length-take}
+use Rattle.std.proofs.lemmas.List.{take_at}
 use Rattle.pcp_base.specs.Texts.{IsText}
 use Rattle.pcp_base.specs.Time.{Moment}
 use Rattle.pcp_base.specs.declared.desc.Desc.{Desc}
@@ -11,7 +11,8 @@ use Rattle.pcp_model.specs.declared.records.MetaRecord.TheVariants.{Description,
 use Rattle.pcp_model.specs.Words.{word, signed_word, length-word, length-signed_word}
 use Rattle.pcp_model.specs.Records.{description, counted_names, DescriptionInRange, domain_head, instance_words, word_bytes, NameStands, NamesStand, IsDomain, IsRecord}
 use Rattle.pcp_model.proofs.Cuts.{number_of_word}
-use Rattle.pcp_model.proofs.Unique.{both, both_words, both_signed, one_text, IsReadOnce}
+use Rattle.pcp_model.proofs.ZeroBytes.{some_is, name_again, offset_within}
+use Rattle.pcp_model.proofs.Unique.{both, both_words, both_signed, IsReadOnce}
 
 -- ---- descriptions
 
@@ -75,31 +76,19 @@ no_more_offsets : (table offsets : List ℕ) → NamesStand table offsets [] →
 no_more_offsets table [] stand = refl
 no_more_offsets table (offset ∷ offsets) stand = absurd (stand tt)
 
-as_many_offsets : (table offsets : List ℕ) (pairs : List (ℤ × List ℕ)) → NamesStand table offsets pairs → length (word_bytes offsets) ≡ 4 * length pairs
+pub as_many_offsets : (table offsets : List ℕ) (pairs : List (ℤ × List ℕ)) → NamesStand table offsets pairs → length (word_bytes offsets) ≡ 4 * length pairs
 as_many_offsets table [] [] stand = refl
 as_many_offsets table [] (p ∷ pairs) stand = absurd (stand tt)
 as_many_offsets table (offset ∷ offsets) [] stand = absurd (stand tt)
 as_many_offsets table (offset ∷ offsets) (p ∷ pairs) stand =
     omega (arith, length-append (word offset) (word_bytes offsets), length-word offset, as_many_offsets table offsets pairs stand.1)
 
-as_many_numbers : (pairs : List (ℤ × List ℕ)) → length (instance_words pairs) ≡ 4 * length pairs
+pub as_many_numbers : (pairs : List (ℤ × List ℕ)) → length (instance_words pairs) ≡ 4 * length pairs
 as_many_numbers [] = refl
 as_many_numbers (p ∷ pairs) = omega (arith, length-append (signed_word p.0) (instance_words pairs), length-signed_word p.0, as_many_numbers pairs)
 
--- an offset of a name is in the table
-offset_within : (table name : List ℕ) (offset : ℕ) → NameStands table offset name → offset < length table
-offset_within table name offset stands =
-    let size : length (take (length name + 1) (drop offset table)) ≡ length (name ++ 0 ∷ []) = ap length stands.is in
-    omega (arith, length-take (length name + 1) (drop offset table), length-drop offset table, length-append name (0 ∷ []))
-
 one_name : (table m n : List ℕ) (offset : ℕ) → NameStands table offset m → NameStands table offset n → m ≡ n
-one_name table m n offset p q =
-    let from : List ℕ = drop offset table in
-    let first : from ≡ m ++ 0 ∷ drop (length m + 1) from =
-    sym (take-append-drop (length m + 1) from) ∙ ap (λ t. t ++ drop (length m + 1) from) p.is ∙ append_assoc m (0 ∷ []) (drop (length m + 1) from) in
-    let second : from ≡ n ++ 0 ∷ drop (length n + 1) from =
-    sym (take-append-drop (length n + 1) from) ∙ ap (λ t. t ++ drop (length n + 1) from) q.is ∙ append_assoc n (0 ∷ []) (drop (length n + 1) from) in
-    one_text m n (drop (length m + 1) from) (drop (length n + 1) from) p.text q.text (sym first ∙ second)
+one_name table m n offset p q = some_is m n (sym (name_again table m offset p) ∙ name_again table n offset q)
 
 both_domains : (table at to : List ℕ) (ps qs : List (ℤ × List ℕ)) → length table < 4294967296 → AllByRecursion (λ (p : ℤ × List ℕ). FitsSigned w32 p.0) ps → AllByRecursion (λ (p : ℤ × List ℕ). FitsSigned w32 p.0) qs
     → NamesStand table at ps → NamesStand table to qs → length ps ≡ length qs → instance_words ps ≡ instance_words qs → word_bytes at ≡ word_bytes to → ps ≡ qs

@@ -1,6 +1,7 @@
 -- What holds of whole files: in how many ways they are read, what they are read as when one piece is added behind, and what
--- recovery keeps.
-use Rattle.std.specs.Prelude.{◌≡◌, ◌≢◌, ◌⊎◌, ℕ, ◌<◌, ◌≤◌, pos, negsuc, List, [], ◌∷◌, ◌++◌, length, take}
+-- recovery keeps; and what a domain's record lists.
+use Rattle.std.specs.Prelude.{◌≡◌, ◌≢◌, ◌⊎◌, ◌↔◌, ℕ, ℤ, Some, All, FitsSigned, ◌<◌, ◌≤◌, pos, negsuc, List, [], ◌∷◌, ◌++◌, length, take}
+use Rattle.std.specs.Int.{w32}
 use Rattle.std.specs.List.{AllByRecursion}
 use Rattle.pcp_base.specs.declared.file.FileId.{FileId}
 use Rattle.pcp_base.specs.declared.file.FileId.TheVariants.{Meta, Index, Volume}
@@ -13,7 +14,8 @@ use Rattle.pcp_model.specs.Frame.{IsFrameable, frame, frames}
 use Rattle.pcp_model.specs.Labels.{IsLabel}
 use Rattle.pcp_model.specs.Payload.{IsItem}
 use Rattle.pcp_model.specs.Recovered.{Recovers, recovered_reading}
-use Rattle.pcp_model.specs.Records.{IsRecord, AreConsistent, FitsEntry, entry}
+use Rattle.pcp_model.specs.Instances.{instances_in}
+use Rattle.pcp_model.specs.Records.{IsRecord, AreConsistent, FitsEntry, entry, instance_words, word_bytes, NamesStand}
 use Rattle.pcp_model.specs.Sound.{IsSound}
 use Rattle.pcp_model.specs.Written.{with_added}
 
@@ -120,3 +122,18 @@ RecoveryStays = (files left : Files) (r : ArchiveReading) → Reads files r → 
 -- it leaves one thing
 abbrev pub RecoveryIsOne : Type 0
 RecoveryIsOne = (files a b : Files) (r : ArchiveReading) → Recovers files r a → Recovers files r b → (file : FileId) → a file ≡ b file
+
+-- So many instances stand in the bytes behind their number: the numbers, as many offsets, and a table in which each offset leads
+-- to its name.
+pub record InstancesStand (count : ℕ) (bytes : List ℕ) (pairs : List (ℤ × List ℕ)) : Type 0 where
+  pub count_is : length pairs ≡ count
+  pub few : count < 2147483648
+  pub numbers : AllByRecursion (λ p. FitsSigned w32 p.0) pairs
+  pub offsets : List ℕ
+  pub table : List ℕ
+  pub names : NamesStand table offsets pairs
+  pub is : bytes ≡ instance_words pairs ++ (word_bytes offsets ++ table)
+
+-- exactly those are read
+abbrev pub InstancesAreRead : Type 0
+InstancesAreRead = (count : ℕ) (bytes : List ℕ) (pairs : List (ℤ × List ℕ)) → All (λ b. b < 256) bytes → length bytes < 4294967296 → (instances_in count bytes ≡ Some pairs) ↔ InstancesStand count bytes pairs

@@ -2,6 +2,7 @@ pub mod Archive
 pub mod Described
 pub mod Disk
 pub mod Frame
+pub mod Instances
 pub mod LabelFields
 pub mod Labels
 pub mod Laws

@@ -1,10 +1,15 @@
-//! What holds of whole files. Each is the contract of a function without parameters, which does nothing.
-ghost use Rattle.pcp_model.specs.Laws.{FilesAreReadOnce, ItemIsAdded, RecordsAreAdded, EntryIsAdded, VolumeIsAdded, CutsAreRead, CutsAreSound, RecoveryKeepsTheScan, RecoveryStays, RecoveryIsOne};
+//! What holds of whole files, and of a domain's record. Each is the contract of a function without parameters, which does nothing.
+ghost use Rattle.pcp_model.specs.Laws.{FilesAreReadOnce, InstancesAreRead, ItemIsAdded, RecordsAreAdded, EntryIsAdded, VolumeIsAdded, CutsAreRead, CutsAreSound, RecoveryKeepsTheScan, RecoveryStays, RecoveryIsOne};
 
 /// Files are read in at most one way: as a stopped creation, or as an archive with this label, these records,
 /// entries and items.
 pub fn files_are_read_once()
     ensures { FilesAreReadOnce }
+{}
+
+/// The instances that are read are those that stand there: each number, and the name to which its offset leads in the table.
+pub fn instances_are_read()
+    ensures { InstancesAreRead }
 {}
 
 /// An item's framed record behind the last volume, which ends with a whole record, is one item more in the scan.

@@ -1,4 +1,5 @@
 //! The records of Meta and the entries of the index, as values.
+use crate::instances::DomainInstances;
 use pcp_base::{Desc, InDom, List, Stamp, Text};
 
 /// A record of Meta (LOGARCHIVE(5)).
@@ -7,7 +8,7 @@ pub enum MetaRecord {
     /// A metric's description and its names.
     Description(Desc, List<Text>),
     /// The instances of a domain from a moment on, each with its number and name.
-    Domain(Stamp, InDom, List<(i32, Text)>),
+    Domain(Stamp, InDom, DomainInstances),
     /// A record of another kind, which is stepped over unread.
     Other,
 }

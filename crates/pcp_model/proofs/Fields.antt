@@ -9,7 +9,7 @@ use Rattle.std.proofs.lemmas.Nat.{be_bytes_4, from_be_bytes-to_be_bytes_4}
 use Rattle.pcp_base.specs.Fields.{be_field}
 use Rattle.pcp_base.proofs.Bytes.{IsBytes, IsBytes-drop, IsBytes-take}
 use Rattle.pcp_model.specs.Words.{word, signed_word}
-use Rattle.archive_meta.proofs.ZeroBytes.{past, some_is}
+use Rattle.pcp_model.proofs.ZeroBytes.{past, some_is}
 
 be_below : (bytes : List ℕ) → IsBytes bytes → from_be_bytes w32 bytes < 4294967296
 be_below bytes fits = omega (arith, fits 0, fits 1, fits 2, fits 3)

@@ -1,8 +1,8 @@
 -- What a text is, by the first zero byte.
-use Rattle.std.proofs.Common.{◌≡◌, ◌≢◌, ℕ, ◌+◌, ◌-◌, ◌<◌, ◌≤◌, Bool, true, false, cond, ltb, List, [], ◌∷◌, ◌++◌, length, get_or, take, drop, position, Option, Some, None, refl, sym, ap, ◌∙◌, subst, arith}
+use Rattle.std.proofs.Common.{◌≡◌, ◌≢◌, ◌⊎◌, inl, inr, ℕ, ◌+◌, ◌-◌, ◌<◌, ◌≤◌, Bool, true, false, cond, ltb, List, [], ◌∷◌, ◌++◌, length, get_or, take, drop, position, Option, Some, None, refl, sym, ap, ◌∙◌, subst, arith}
 use Rattle.std.specs.Prelude.{is_none, IfSome, IfNone}
 use Rattle.std.specs.List.{position_or_len}
-use Rattle.std.proofs.lemmas.Bool.{lt-ltb, le-ltb, ltb-false, eqb-false, eqb-true, eq-eqb, ne_eqb}
+use Rattle.std.proofs.lemmas.Bool.{cases_lt, lt-ltb, le-ltb, ltb-false, eqb-false, eqb-true, eq-eqb, ne_eqb}
 use Rattle.std.proofs.lemmas.List.{take_at, take-take, take_more, length-append, length-take, length-drop, length-take-le, get_or-take, get_or_append_left, get_or-append_right}
 use Rattle.std.proofs.lemmas.List.Sums.{position_or_len_is, fails_before_first}
 use Rattle.std.proofs.lemmas.List.Quantifiers.{position-Some}
@@ -10,7 +10,7 @@ use Rattle.std.proofs.lemmas.Grind.{get_or_default_zero}
 use Rattle.memchr.specs.Find.{Nowhere, Passes, IsFirstByte, is_byte}
 use Rattle.pcp_base.specs.Texts.{IsText}
 use Rattle.pcp_model.specs.Records.{NameStands}
-use Rattle.archive_meta.specs.Decoding.{◌>>=◌, is_zero, text_of, name_at}
+use Rattle.pcp_model.specs.Instances.{◌>>=◌, is_zero, text_of, name_at}
 
 -- the value of a step that gave one
 pub bind_some : {A B : Type 0} (o : Option A) (f : A → Option B) (y : B) → (o >>= f) ≡ Some y → (x : A) × (o ≡ Some x) × (f x ≡ Some y)
@@ -41,13 +41,26 @@ position_at bytes at within zero before =
     let e : first_zero bytes ≡ at = first_at bytes at within zero before in
     ap (λ b. cond b (Some (first_zero bytes)) None) (lt-ltb (first_zero bytes) (length bytes) (omega arith)) ∙ ap Some e
 
-position_none : (bytes : List ℕ) → IsText bytes → position is_zero bytes ≡ None
+pub position_none : (bytes : List ℕ) → IsText bytes → position is_zero bytes ≡ None
 position_none bytes clean =
     let e : first_zero bytes ≡ length bytes = position_or_len_is is_zero bytes (length bytes) 0 (omega arith) (λ k h. ne_eqb (get_or bytes k 0) 0 (clean k 0 h)) (λ h. absurd (omega arith)) in
     ap (λ b. cond b (Some (first_zero bytes)) None) (le-ltb (first_zero bytes) (length bytes) (omega arith))
 
 clean_where : (bytes : List ℕ) → length bytes ≤ first_zero bytes → IsText bytes
 clean_where bytes h k d lt = eqb-false (get_or bytes k d) 0 (fails_before_first is_zero bytes k d (omega arith))
+
+-- none is zero, or those up to the first that is
+pub zero_cases : (bytes : List ℕ) → IsText bytes ⊎ ((end : ℕ) × (position is_zero bytes ≡ Some end) × IsText (take end bytes))
+zero_cases bytes =
+    elim (cases_lt (first_zero bytes) (length bytes)) [
+      | inl lt ↦ inr (first_zero bytes, ap (λ b. cond b (Some (first_zero bytes)) None) (lt-ltb (first_zero bytes) (length bytes) lt), clean)
+      | inr le ↦ inl (clean_where bytes le)
+    ]
+  where
+    clean : IsText (take (first_zero bytes) bytes)
+    clean k d within =
+        let low : k < first_zero bytes = omega (arith, length-take (first_zero bytes) bytes) in
+        λ zero. eqb-false (get_or bytes k d) 0 (fails_before_first is_zero bytes k d low) (sym (get_or-take (first_zero bytes) bytes k d low) ∙ zero)
 
 none_where : (b : Bool) (n : ℕ) → is_none (cond b (Some n) None) ≡ true → b ≡ false
 none_where true n e = absurd cc
