@@ -13,7 +13,7 @@ fn values_from(alloc: Global, payload: &[u8], run: Run) -> Result<List<(i32, u32
     ensures { Gives result (values_from payload.now run.count run.from) }
 {
     let mut at = run.from;
-    let mut pairs = List::empty(alloc);
+    let mut pairs = List::from_vec(Vec::with_capacity(alloc, run.count as usize)?);
     for _ in 0..run.count {
         let pair = pair_at(payload, at)?;
         pairs.push(pair)?;
@@ -105,7 +105,7 @@ fn blocks_from(
 {
     let mut at = run.from;
     let mut reach = reached;
-    let mut pairs = List::empty(alloc);
+    let mut pairs = List::from_vec(Vec::with_capacity(alloc, run.count as usize)?);
     for _ in 0..run.count {
         let (pair, end) = offset_pair(payload, sets_end, tail, at)?;
         pairs.push(pair)?;

@@ -53,7 +53,7 @@ fn sets_from(
 {
     let mut at = from;
     let mut reach = sets_end;
-    let mut sets = List::empty(alloc);
+    let mut sets = List::from_vec(Vec::with_capacity(alloc, count as usize)?);
     for _ in 0..count {
         let (set, end) = set_at(alloc, payload, sets_end, tail, reach, at)?;
         at = set_end(payload, at)?;
