@@ -1,4 +1,4 @@
--- What stands at the offsets of an image, row by row (mmv(5), version 1), as values. It is total: where a code has no
+-- What stands at the offsets of an image, row by row (mmv(5)), as values. It is total: where a code has no
 -- meaning, or a reference doesn't lead, it is something, but no image is so.
 use Rattle.std.specs.Prelude.{ℕ, zero, suc, ℤ, ◌+◌, ◌*◌, ◌==◌, nat_le, if◌then◌else◌, List, [], ◌∷◌, ◌++◌, Option, None, Some, unwrap_or}
 use Rattle.std.specs.Int.{w32, cast_signed}
@@ -40,7 +40,7 @@ instance_row words instance = (number_of words instance, name_in_instance words 
 
 -- the instances of the domain at an offset: as many as it counts, from its first instance on
 unfoldable pub instances_of : List ℕ → ℕ → List (ℤ × List ℕ)
-instances_of words domain = list_below (count_in_indom words domain) (λ k. instance_row words (first_in_indom words domain + instance_size * k))
+instances_of words domain = list_below (count_in_indom words domain) (λ k. instance_row words (first_in_indom words domain + instance_size (version_in words) * k))
 
 unfoldable pub indom_row : List ℕ → ℕ → IndomRow
 indom_row words domain = record {
@@ -62,8 +62,8 @@ metric_row words metric = record {
   semantics = unwrap_or (semantics_of_code (semantics_in_metric words metric)) Counter;
   units = units_in_metric words metric;
   serial = serial_of (serial_in_metric words metric);
-  short = help_of words (short_offset_in_metric metric);
-  long = help_of words (long_offset_in_metric metric);
+  short = help_of words (short_offset_in_metric words metric);
+  long = help_of words (long_offset_in_metric words metric);
 }
 
 -- the item, the type and the serial of the metric of the value at an offset
