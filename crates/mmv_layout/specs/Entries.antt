@@ -98,11 +98,15 @@ has_name words field = is_passed_over words field || (name_ends words field && s
 unfoldable pub is_instance_of : List ℕ → ℕ → ℕ → Bool
 is_instance_of words domain instance = leads_to_instance words instance && domain_in_instance words instance == domain
 
+-- instance k of the run of the domain at an offset
+abbrev pub run_at : List ℕ → ℕ → ℕ → ℕ
+run_at words domain k = first_in_indom words domain + instance_size (version_in words) * k
+
 -- the run of the domain at an offset: as many of its instances as it counts, from its first instance on. Where they
 -- aren't is the fault Reference, at the domain's first instance field
 unfoldable pub has_good_run : List ℕ → ℕ → Bool
 has_good_run words domain =
-    all_below (count_in_indom words domain) (λ k. is_instance_of words domain (first_in_indom words domain + instance_size (version_in words) * k))
+    all_below (count_in_indom words domain) (λ k. is_instance_of words domain (run_at words domain k))
 
 -- domain i has a serial
 unfoldable pub has_serial : List ℕ → ℕ → ℕ → Bool
