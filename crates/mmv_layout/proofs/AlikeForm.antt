@@ -6,10 +6,10 @@ use Rattle.std.proofs.lemmas.Bool.Decides.{nat_tests}
 use Rattle.std.proofs.lemmas.Bool.{eq-eqb}
 use Rattle.mmv_layout.specs.Below.{all_below}
 use Rattle.mmv_layout.specs.Fields.{number64}
-use Rattle.mmv_layout.specs.Sizes.{name_width, instance_size, value_size, string_size}
+use Rattle.mmv_layout.specs.Sizes.{is_version, instance_size, value_size, string_size}
 use Rattle.mmv_layout.specs.EntryFields.{units_offset_in_metric, count_offset_in_indom, count_in_indom, first_offset_in_indom, first_in_indom, short_offset_in_indom, long_offset_in_indom, number_offset_in_instance, name_offset_in_instance, item_offset_in_metric, type_offset_in_metric, semantics_offset_in_metric, serial_offset_in_metric, short_offset_in_metric, long_offset_in_metric, extra_in_value, instance_in_value}
-use Rattle.mmv_layout.specs.Contents.{bytes_in, is_short, contents_in, has_good_section, is_aligned, sections_are_good, sections_are_aligned, section_of, cluster_offset}
-use Rattle.mmv_layout.specs.Entries.{leads_to_string, indom_count, indom_at, instance_count, instance_at, metric_count, metric_at, value_count, value_at, string_count, string_at, help_leads, is_good_indom, is_good_instance, is_no_domain, has_good_fields, is_good_metric, is_good_value, is_good_string, indoms_are_good, instances_are_good, metrics_are_good, values_are_good, strings_are_good}
+use Rattle.mmv_layout.specs.Contents.{version_in, bytes_in, is_short, contents_in, has_good_section, is_aligned, sections_are_good, sections_are_aligned, section_of, cluster_offset}
+use Rattle.mmv_layout.specs.Entries.{leads_to_string, indom_count, indom_at, instance_count, instance_at, metric_count, metric_at, value_count, value_at, string_count, string_at, run_at, help_leads, is_good_indom, is_good_instance, is_no_domain, has_good_fields, is_good_metric, is_good_value, is_good_string, indoms_are_good, instances_are_good, metrics_are_good, values_are_good, strings_are_good}
 use Rattle.mmv_layout.specs.Images.{has_good_header, is_image}
 use Rattle.mmv_layout.proofs.Below.{all_at, both_left, both_right}
 use Rattle.mmv_layout.proofs.Images.{short_words}
@@ -22,10 +22,11 @@ use Rattle.mmv_layout.specs.Form.{slot_at, slots_of, offsets_of, subjects_of, Fo
 use Rattle.mmv_layout.specs.Says.{LeadsTo}
 use Rattle.mmv_layout.proofs.Goods.{eq_of, either, or_right, leads_there, header, sections, aligned, good_indom, good_instance, good_metric, good_value, good_string}
 use Rattle.mmv_layout.proofs.Looked.{Looked, five_words, looked_indom, looked_metric, looked_string}
+use Rattle.mmv_layout.proofs.Runs.{run_leads}
 use Rattle.mmv_layout.proofs.RowLists.{rows_same}
 use Rattle.mmv_layout.proofs.SlotLists.{gives_same}
 use Rattle.mmv_layout.proofs.Saying.{indom_rows_same, metric_rows_same, value_rows_same, layouts_same, metric_fields}
-use Rattle.mmv_layout.proofs.Alike.{Agrees, head32, contents_same, count_same, offset_same, section_same, section_still, same32, text_same, indom_offset, run_leads, looked_run, indom_same, instance_same, metric_offset, metric_looked, metric_same, of_same, field_same, instance_there, value_still, string_offset, string_same}
+use Rattle.mmv_layout.proofs.Alike.{Agrees, head32, version_same, contents_same, count_same, offset_same, section_same, section_still, same32, text_same, indom_offset, looked_run, named_instance, named_metric, looked_field_of, run_at_same, name_same, indom_same, instance_same, metric_offset, metric_same, type_of_same, item_of_same, serial_of_same, field_same, instance_there, value_still, string_offset, string_same}
 
 all_hold : (n m : ℕ) (test : ℕ → Bool) → m ≡ n → ((k : ℕ) → k < n → test k ≡ true) → all_below m test ≡ true
 unfolding all_below
@@ -68,7 +69,7 @@ module _ (a b : List ℕ) (h : is_image a ≡ true) (g : Agrees a b) where
       (long_words (is_short (bytes_in b)) (length b) (short_words b) (omega arith))
       (few_enough (length b) g.few)
       (ap (λ n. nat_eq n 5655885) (head32 a b h g 0 (omega arith) (inl (omega arith))) ∙ both_right _ _ (both_left _ _ (both_left _ _ (both_left _ _ good))))
-      (ap (λ n. nat_eq n 1) (head32 a b h g 4 (omega arith) (inl (omega arith))) ∙ both_right _ _ (both_left _ _ (both_left _ _ good)))
+      (ap is_version (version_same a b h g) ∙ both_right _ _ (both_left _ _ (both_left _ _ good)))
       (eq-eqb (number64 b 8) (number64 b 16) g.again)
       (ap (λ n. nat_le n 4095) (head32 a b h g cluster_offset (omega arith) (inr (omega arith))) ∙ both_right _ _ good)
 
@@ -121,18 +122,15 @@ module _ (a b : List ℕ) (h : is_image a ≡ true) (g : Agrees a b) where
   unfolding instance_row
   instance_row_same offset leads =
       ap₂ (λ n t. (cast_signed w32 n, t)) (same32 a b h g (number_offset_in_instance offset) (looked_run a b h g offset (number_offset_in_instance 0) leads (omega arith)))
-      (text_same a b h g name_width (name_offset_in_instance offset) (λ k small. subst (Looked a) (moved offset k) (looked_run a b h g offset (name_offset_in_instance 0 + k) leads (omega arith))))
-    where
-      moved : (p k : ℕ) → p + (name_offset_in_instance 0 + k) ≡ name_offset_in_instance p + k
-      moved p k = omega arith
+      (name_same a b h g (name_offset_in_instance offset) (named_instance a b h g offset leads))
 
   instances_of_same : (i : ℕ) → i < indom_count a → instances_of b (indom_at a i) ≡ instances_of a (indom_at a i)
   unfolding instances_of
   instances_of_same i below =
-      ap (λ n. list_below n (λ k. instance_row b (first_in_indom b (indom_at a i) + instance_size * k))) (same32 a b h g (count_offset_in_indom (indom_at a i)) (looked_indom a i (count_offset_in_indom 0) h below (omega arith)))
-      ∙ rows_same (count_in_indom a (indom_at a i)) (λ k. instance_row b (first_in_indom b (indom_at a i) + instance_size * k)) (λ k. instance_row a (first_in_indom a (indom_at a i) + instance_size * k))
-      (λ k within. ap (λ n. instance_row b (n + instance_size * k)) (g.same (first_offset_in_indom (indom_at a i)) (looked_indom a i (first_offset_in_indom 0) h below (omega arith)))
-      ∙ instance_row_same (first_in_indom a (indom_at a i) + instance_size * k) (run_leads a b h g i k below within))
+      ap (λ n. list_below n (λ k. instance_row b (run_at b (indom_at a i) k))) (same32 a b h g (count_offset_in_indom (indom_at a i)) (looked_indom a i (count_offset_in_indom 0) h below (omega arith)))
+      ∙ rows_same (count_in_indom a (indom_at a i)) (λ k. instance_row b (run_at b (indom_at a i) k)) (λ k. instance_row a (run_at a (indom_at a i) k))
+      (λ k within. ap (instance_row b) (run_at_same a b h g i k below)
+      ∙ instance_row_same (run_at a (indom_at a i) k) (run_leads a i k h below within))
 
   short_leads : (i : ℕ) → is_good_indom a i ≡ true → help_leads a (short_offset_in_indom (indom_at a i)) ≡ true
   unfolding is_good_indom
@@ -157,11 +155,11 @@ module _ (a b : List ℕ) (h : is_image a ≡ true) (g : Agrees a b) where
       ap (λ n. list_below n (λ i. indom_row b (indom_at b i))) (count_of 1)
       ∙ rows_same (indom_count a) (λ i. indom_row b (indom_at b i)) (λ i. indom_row a (indom_at a i)) (λ i below. ap (indom_row b) (indom_offset a b h g i) ∙ indom_row_same i below)
 
-  metric_short : (metric : ℕ) → has_good_fields a metric ≡ true → help_leads a (short_offset_in_metric metric) ≡ true
+  metric_short : (metric : ℕ) → has_good_fields a metric ≡ true → help_leads a (short_offset_in_metric a metric) ≡ true
   unfolding has_good_fields
   metric_short metric good = both_right _ _ (both_left _ _ (both_left _ _ good))
 
-  metric_long : (metric : ℕ) → has_good_fields a metric ≡ true → help_leads a (long_offset_in_metric metric) ≡ true
+  metric_long : (metric : ℕ) → has_good_fields a metric ≡ true → help_leads a (long_offset_in_metric a metric) ≡ true
   unfolding has_good_fields
   metric_long metric good = both_right _ _ (both_left _ _ good)
 
@@ -170,14 +168,14 @@ module _ (a b : List ℕ) (h : is_image a ≡ true) (g : Agrees a b) where
   metric_row_same i below =
       let good : has_good_fields a (metric_at a i) ≡ true = metric_fields a i (good_metric a i h below) in
       metric_rows_same (metric_row b (metric_at a i)) (metric_row a (metric_at a i))
-      (text_same a b h g name_width (metric_at a i) (metric_looked a b h g i below))
-      (same32 a b h g (item_offset_in_metric (metric_at a i)) (looked_metric a i (item_offset_in_metric 0) h below (omega arith)))
-      (rw (same32 a b h g (type_offset_in_metric (metric_at a i)) (looked_metric a i (type_offset_in_metric 0) h below (omega arith))) refl)
-      (rw (same32 a b h g (semantics_offset_in_metric (metric_at a i)) (looked_metric a i (semantics_offset_in_metric 0) h below (omega arith))) refl)
-      (same32 a b h g (units_offset_in_metric (metric_at a i)) (looked_metric a i (units_offset_in_metric 0) h below (omega arith)))
-      (rw (same32 a b h g (serial_offset_in_metric (metric_at a i)) (looked_metric a i (serial_offset_in_metric 0) h below (omega arith))) refl)
-      (help_of_same (short_offset_in_metric (metric_at a i)) (looked_metric a i (short_offset_in_metric 0) h below (omega arith)) (metric_short (metric_at a i) good))
-      (help_of_same (long_offset_in_metric (metric_at a i)) (looked_metric a i (long_offset_in_metric 0) h below (omega arith)) (metric_long (metric_at a i) good))
+      (name_same a b h g (metric_at a i) (named_metric a b h g i below))
+      (rw (version_same a b h g) (same32 a b h g (item_offset_in_metric a (metric_at a i)) (looked_field_of a b h g i (item_offset_in_metric a (metric_at a i)) below (omega arith) (omega arith))))
+      (rw (version_same a b h g, same32 a b h g (type_offset_in_metric a (metric_at a i)) (looked_field_of a b h g i (type_offset_in_metric a (metric_at a i)) below (omega arith) (omega arith))) refl)
+      (rw (version_same a b h g, same32 a b h g (semantics_offset_in_metric a (metric_at a i)) (looked_field_of a b h g i (semantics_offset_in_metric a (metric_at a i)) below (omega arith) (omega arith))) refl)
+      (rw (version_same a b h g) (same32 a b h g (units_offset_in_metric a (metric_at a i)) (looked_field_of a b h g i (units_offset_in_metric a (metric_at a i)) below (omega arith) (omega arith))))
+      (rw (version_same a b h g, same32 a b h g (serial_offset_in_metric a (metric_at a i)) (looked_field_of a b h g i (serial_offset_in_metric a (metric_at a i)) below (omega arith) (omega arith))) refl)
+      (rw (version_same a b h g) (help_of_same (short_offset_in_metric a (metric_at a i)) (looked_field_of a b h g i (short_offset_in_metric a (metric_at a i)) below (omega arith) (omega arith)) (metric_short (metric_at a i) good)))
+      (rw (version_same a b h g) (help_of_same (long_offset_in_metric a (metric_at a i)) (looked_field_of a b h g i (long_offset_in_metric a (metric_at a i)) below (omega arith) (omega arith)) (metric_long (metric_at a i) good)))
 
   metrics_same : metrics_of b ≡ metrics_of a
   unfolding metrics_of
@@ -201,7 +199,7 @@ module _ (a b : List ℕ) (h : is_image a ≡ true) (g : Agrees a b) where
   instance_of_same : (i : ℕ) → i < value_count a → instance_of b (value_at a i) ≡ instance_of a (value_at a i)
   unfolding instance_of
   instance_of_same i below =
-      rw (of_same a b h g i (serial_offset_in_metric 0) below (omega arith), field_same a b h g i below)
+      rw (serial_of_same a b h g i below, field_same a b h g i below)
       (⊎_elim
       (λ (none : is_no_domain (domain_of a (value_at a i)) ≡ true). rw none refl)
       (λ (some : is_no_domain (domain_of a (value_at a i)) ≡ false).
@@ -212,7 +210,7 @@ module _ (a b : List ℕ) (h : is_image a ≡ true) (g : Agrees a b) where
   slot_at_same : (i : ℕ) → i < value_count a → slot_at b (value_at a i) ≡ slot_at a (value_at a i)
   unfolding slot_at
   slot_at_same i below =
-      rw (of_same a b h g i (type_offset_in_metric 0) below (omega arith), of_same a b h g i (item_offset_in_metric 0) below (omega arith), instance_of_same i below) refl
+      rw (type_of_same a b h g i below, item_of_same a b h g i below, instance_of_same i below) refl
 
   slots_same : slots_of b ≡ slots_of a
   unfolding slots_of
@@ -225,7 +223,7 @@ module _ (a b : List ℕ) (h : is_image a ≡ true) (g : Agrees a b) where
   subjects_same =
       ap (λ s. list_below s.count (λ i. (item_of b (s.offset + value_size * i), instance_of b (s.offset + value_size * i)))) (section_same a b h g 4)
       ∙ rows_same (value_count a) (λ i. (item_of b (value_at a i), instance_of b (value_at a i))) (λ i. (item_of a (value_at a i), instance_of a (value_at a i)))
-      (λ i below. ap₂ (λ n o. (n, o)) (of_same a b h g i (item_offset_in_metric 0) below (omega arith)) (instance_of_same i below))
+      (λ i below. ap₂ (λ n o. (n, o)) (item_of_same a b h g i below) (instance_of_same i below))
 
   pub form_same : form_of b ≡ form_of a
   unfolding form_of
@@ -243,7 +241,7 @@ module _ (a b : List ℕ) (h : is_image a ≡ true) (g : Agrees a b) where
     content_same : (i : ℕ) → i < value_count a → content_of b (value_at a i) ≡ content_of a (value_at a i)
     unfolding content_of
     content_same i below =
-        rw (of_same a b h g i (type_offset_in_metric 0) below (omega arith), numbers i below, extras i below)
+        rw (type_of_same a b h g i below, numbers i below, extras i below)
         (⊎_elim
         (λ (choice : nat_eq (type_of a (value_at a i)) 6 ≡ true).
         ap (λ t. cond (nat_le (type_of a (value_at a i)) 3) (Number (number64 a (value_at a i))) (cond (nat_eq (type_of a (value_at a i)) 6) (Choice t) (Raw (number64 a (value_at a i)) (extra_in_value a (value_at a i)))))
@@ -255,7 +253,7 @@ module _ (a b : List ℕ) (h : is_image a ≡ true) (g : Agrees a b) where
     value_row_same : (i : ℕ) → i < value_count a → value_row b (value_at a i) ≡ value_row a (value_at a i)
     unfolding value_row
     value_row_same i below =
-        value_rows_same (value_row b (value_at a i)) (value_row a (value_at a i)) (of_same a b h g i (item_offset_in_metric 0) below (omega arith)) (instance_of_same i below) (content_same i below)
+        value_rows_same (value_row b (value_at a i)) (value_row a (value_at a i)) (item_of_same a b h g i below) (instance_of_same i below) (content_same i below)
 
     values_same : values_of b ≡ values_of a
     unfolding values_of

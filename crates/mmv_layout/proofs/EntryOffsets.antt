@@ -1,7 +1,7 @@
 -- Where the sections of an image lie.
 use Rattle.std.proofs.Common.{◌≡◌, ◌≢◌, ℕ, zero, suc, ◌+◌, ◌*◌, ◌%◌, ◌^◌, ◌<◌, ◌≤◌, Bool, true, false, not, List, length, ap₂, sym, subst, ◌∙◌, refl, arith, nat_eq, nat_le, if◌then◌else◌}
 use Rattle.std.proofs.lemmas.Bool.Decides.{nat_tests}
-use Rattle.mmv_layout.specs.Contents.{bytes_in, contents_in, type_in, count_in, offset_in, section_bytes, end_in, section_lies, has_good_section, is_aligned, sections_are_good, sections_are_aligned, find_section, section_of, entry_at}
+use Rattle.mmv_layout.specs.Contents.{version_in, bytes_in, contents_in, type_in, count_in, offset_in, section_bytes, end_in, section_lies, has_good_section, is_aligned, sections_are_good, sections_are_aligned, find_section, section_of, entry_at}
 use Rattle.mmv_layout.specs.Sizes.{header_size, value_size, string_size}
 use Rattle.mmv_layout.specs.Entries.{value_count, value_at, string_count, string_at}
 use Rattle.mmv_layout.specs.Images.{has_good_header, is_image}
@@ -36,26 +36,26 @@ pub record Lies (words : List ℕ) (offset bytes : ℕ) : Type 0 where
   pub whole : offset % 8 ≡ 0
 
 entry_lies : (words : List ℕ) (i : ℕ) → has_good_section words i ≡ true → is_aligned words i ≡ true → count_in words i ≢ 0
-    → Lies words (offset_in words i) (section_bytes (type_in words i) (count_in words i))
+    → Lies words (offset_in words i) (section_bytes (version_in words) (type_in words i) (count_in words i))
 unfolding has_good_section section_lies end_in is_aligned
 entry_lies words i good straight some =
     let none : nat_eq (count_in words i) 0 ≡ false = isnt_zero (count_in words i) some in
     let lies = or_right (nat_eq (count_in words i) 0) _ (both_right _ _ (both_left _ _ good)) none in record {
       behind = le_of (entry_at (contents_in words)) (offset_in words i) (both_left _ _ lies);
-      within = le_of (offset_in words i + section_bytes (type_in words i) (count_in words i)) (bytes_in words) (both_right _ _ lies);
+      within = le_of (offset_in words i + section_bytes (version_in words) (type_in words i) (count_in words i)) (bytes_in words) (both_right _ _ lies);
       whole = eq_of (offset_in words i % 8) 0 (or_right (nat_eq (count_in words i) 0) _ straight none);
     }
 
 pub section_stands : (words : List ℕ) (type : ℕ) → is_image words ≡ true → (section_of words type).count ≢ 0
-    → Lies words (section_of words type).offset (section_bytes type (section_of words type).count)
+    → Lies words (section_of words type).offset (section_bytes (version_in words) type (section_of words type).count)
 unfolding section_of sections_are_good sections_are_aligned
 section_stands words type h some =
     let e : Entry words type (contents_in words) (find_section words type (contents_in words)).offset (find_section words type (contents_in words)).count = entry_of words type (contents_in words) some in
-    let lies : Lies words (offset_in words e.index) (section_bytes (type_in words e.index) (count_in words e.index)) =
+    let lies : Lies words (offset_in words e.index) (section_bytes (version_in words) (type_in words e.index) (count_in words e.index)) =
     entry_lies words e.index (all_at (contents_in words) e.index (has_good_section words) (sections words h) e.below)
     (all_at (contents_in words) e.index (is_aligned words) (aligned words h) e.below) (λ z. some (sym e.count_is ∙ z)) in
-    subst (λ offset. Lies words offset (section_bytes type (find_section words type (contents_in words)).count)) e.offset_is
-    (subst (λ bytes. Lies words (offset_in words e.index) bytes) (ap₂ section_bytes e.type_is e.count_is) lies)
+    subst (λ offset. Lies words offset (section_bytes (version_in words) type (find_section words type (contents_in words)).count)) e.offset_is
+    (subst (λ bytes. Lies words (offset_in words e.index) bytes) (ap₂ (section_bytes (version_in words)) e.type_is e.count_is) lies)
 
 pub some_of : (i n : ℕ) → i < n → n ≢ 0
 some_of i n h e = omega arith

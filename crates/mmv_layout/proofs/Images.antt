@@ -10,9 +10,9 @@ use Rattle.mmv_layout.specs.Fields.{words_of, first_words}
 use Rattle.mmv_layout.specs.Sizes.{is_version}
 use Rattle.mmv_layout.specs.EntryFields.{serial_in_indom, short_offset_in_indom, long_offset_in_indom, number_offset_in_instance, number_in_instance, name_offset_in_instance, item_offset_in_metric, item_in_metric, type_in_metric, semantics_in_metric, serial_in_metric, short_offset_in_metric, long_offset_in_metric, extra_offset_in_value, metric_offset_in_value, instance_offset_in_value}
 use Rattle.mmv_layout.specs.Contents.{bytes_in, is_short, has_magic, version_in, first_generation, second_generation, cluster_in, contents_in, has_good_section, is_aligned, sections_are_good, sections_are_aligned, offset_field_in}
-use Rattle.mmv_layout.specs.Entries.{indom_count, indom_at, instance_count, instance_at, metric_count, metric_at, value_count, value_at, string_count, string_at, has_text, has_name, is_good_string, is_kind, is_semantics, has_good_run, help_leads, lies_in_run, serial_leads, leads_to_metric, metric_of, choice_leads, instance_leads, is_new_indom, is_new_instance, is_new_metric, is_new_value, is_serial, is_instance_number, is_item, is_good_indom, is_good_instance, is_good_metric, has_good_fields, is_good_value, indoms_are_good, instances_are_good, metrics_are_good, values_are_good, strings_are_good}
+use Rattle.mmv_layout.specs.Entries.{indom_count, indom_at, instance_count, instance_at, metric_count, metric_at, value_count, value_at, string_count, string_at, has_text, has_name, is_good_string, is_kind, is_semantics, has_good_run, help_leads, name_leads, lies_in_run, serial_leads, leads_to_metric, metric_of, choice_leads, instance_leads, is_new_indom, is_new_instance, is_new_metric, is_new_value, is_serial, is_instance_number, is_item, is_good_indom, is_good_instance, is_good_metric, has_good_fields, is_good_value, indoms_are_good, instances_are_good, metrics_are_good, values_are_good, strings_are_good}
 use Rattle.mmv_layout.specs.Images.{has_good_header, is_image, is_cluster, is_too_large}
-use Rattle.mmv_layout.specs.Faults.{has_sections, or_else, unless, bad_type, section_fault, offset_fault, instance_name_fault, metric_name_fault, string_fault, name_fault, code_fault, kind_fault, help_fault, indom_reference_fault, metric_reference_fault, value_reference_fault, indoms_reference_fault, instances_reference_fault, metrics_reference_fault, values_reference_fault, reference_fault, indoms_duplicate_fault, instances_duplicate_fault, metrics_duplicate_fault, values_duplicate_fault, duplicate_fault, indoms_serial_fault, instances_serial_fault, metrics_serial_fault, cluster_fault, serial_fault, entries_fault, header_fault, image_fault, unless_fault, image_in, image_of}
+use Rattle.mmv_layout.specs.Faults.{has_sections, or_else, unless, bad_type, section_fault, offset_fault, instance_name_fault, metric_name_fault, string_fault, name_fault, code_fault, kind_fault, help_fault, indom_reference_fault, name_reference_fault, instance_reference_fault, metric_reference_fault, value_reference_fault, indoms_reference_fault, instances_reference_fault, metrics_reference_fault, values_reference_fault, reference_fault, indoms_duplicate_fault, instances_duplicate_fault, metrics_duplicate_fault, values_duplicate_fault, duplicate_fault, indoms_serial_fault, instances_serial_fault, metrics_serial_fault, cluster_fault, serial_fault, entries_fault, header_fault, image_fault, unless_fault, image_in, image_of}
 use Rattle.mmv_layout.proofs.Below.{both_left, both_right}
 use Rattle.mmv_layout.proofs.Nones.{none_or_else, none_lower, none_unless, none_refused, none_first, none_tests, tests_pass, all_same, all_both}
 use Rattle.mmv_layout.proofs.Lies.{le_of, not_above}
@@ -82,21 +82,26 @@ indoms_same words =
 
 -- Instances
 
+instance_references : (words : List ℕ) (instance : ℕ) → is_none (instance_reference_fault words instance) ≡ (lies_in_run words instance && name_leads words (name_offset_in_instance instance))
+unfolding instance_reference_fault name_reference_fault
+instance_references words instance = none_or_else _ _ ∙ both _ _ _ _ (none_unless _ _) (none_unless _ _)
+
 instances_same : (words : List ℕ) → instances_are_good words ≡ ((is_none (instance_name_fault words) && is_none (instances_reference_fault words)) && (is_none (instances_duplicate_fault words) && is_none (instances_serial_fault words)))
 unfolding instances_are_good is_good_instance instance_name_fault instances_reference_fault instances_duplicate_fault instances_serial_fault
 instances_same words =
     let n : ℕ = instance_count words in
     let offset : (ℕ → ℕ) = λ i. instance_at words i in
     let text : (ℕ → Bool) = λ i. has_text words (name_offset_in_instance (offset i)) in
-    let lies : (ℕ → Bool) = λ i. lies_in_run words (offset i) in
+    let refs : (ℕ → Bool) = λ i. lies_in_run words (offset i) && name_leads words (name_offset_in_instance (offset i)) in
     let number : (ℕ → Bool) = λ i. is_instance_number (number_in_instance words (offset i)) in
-    all_same n (is_good_instance words) (λ i. (text i && lies i) && (is_new_instance words i && number i)) (λ i. grouped (text i) (lies i) (is_new_instance words i) (number i))
-    ∙ sym (all_both n (λ i. text i && lies i) (λ i. is_new_instance words i && number i))
-    ∙ both _ _ _ _ (sym (all_both n text lies)) (sym (all_both n (is_new_instance words) number))
-    ∙ sym (both _ _ _ _ (both _ _ _ _ (none_tests n text (λ i. name_offset_in_instance (offset i))) (none_tests n lies offset)) (both _ _ _ _ (none_tests n (is_new_instance words) offset) (none_tests n number (λ i. number_offset_in_instance (offset i)))))
+    all_same n (is_good_instance words) (λ i. (text i && refs i) && (is_new_instance words i && number i)) (λ i. grouped (text i) (name_leads words (name_offset_in_instance (offset i))) (lies_in_run words (offset i)) (is_new_instance words i) (number i))
+    ∙ sym (all_both n (λ i. text i && refs i) (λ i. is_new_instance words i && number i))
+    ∙ both _ _ _ _ (sym (all_both n text refs)) (sym (all_both n (is_new_instance words) number))
+    ∙ sym (both _ _ _ _ (both _ _ _ _ (none_tests n text (λ i. name_offset_in_instance (offset i))) (none_first n (λ i. instance_reference_fault words (offset i)) ∙ all_same n _ refs (λ i. instance_references words (offset i))))
+    (both _ _ _ _ (none_tests n (is_new_instance words) offset) (none_tests n number (λ i. number_offset_in_instance (offset i)))))
   where
-    grouped : (a b c d : Bool) → (a && b && c && d) ≡ ((a && b) && (c && d))
-    grouped a b c d = grind (arith, nat_tests)
+    grouped : (text name lies new number : Bool) → (text && name && lies && new && number) ≡ ((text && (lies && name)) && (new && number))
+    grouped text name lies new number = grind (arith, nat_tests)
 
 -- Metrics
 
@@ -104,12 +109,15 @@ metric_codes : (words : List ℕ) (metric : ℕ) → is_none (code_fault words m
 unfolding code_fault
 metric_codes words metric = none_or_else _ _ ∙ both _ _ _ _ (none_unless _ _) (none_unless _ _)
 
-metric_references : (words : List ℕ) (metric : ℕ) → is_none (metric_reference_fault words metric) ≡ (serial_leads words (serial_in_metric words metric) && (help_leads words (short_offset_in_metric metric) && help_leads words (long_offset_in_metric metric)))
-unfolding metric_reference_fault help_fault
-metric_references words metric = none_or_else _ _ ∙ both _ _ _ _ (none_unless _ _) (none_or_else _ _ ∙ both _ _ _ _ (none_unless _ _) (none_unless _ _))
+metric_references : (words : List ℕ) (metric : ℕ) → is_none (metric_reference_fault words metric)
+    ≡ (name_leads words metric && (serial_leads words (serial_in_metric words metric) && (help_leads words (short_offset_in_metric words metric) && help_leads words (long_offset_in_metric words metric))))
+unfolding metric_reference_fault name_reference_fault help_fault
+metric_references words metric =
+    none_or_else _ _ ∙ both _ _ _ _ (none_unless _ _) (none_or_else _ _ ∙ both _ _ _ _ (none_unless _ _) (none_or_else _ _ ∙ both _ _ _ _ (none_unless _ _) (none_unless _ _)))
 
-metric_parts : (name kind semantics serial short long item new : Bool) → (name && (kind && semantics && serial && short && long && item) && new) ≡ ((name && (kind && semantics)) && ((serial && (short && long)) && (new && item)))
-metric_parts name kind semantics serial short long item new = grind (arith, nat_tests)
+metric_parts : (name leads kind semantics serial short long item new : Bool) → (name && leads && (kind && semantics && serial && short && long && item) && new)
+    ≡ ((name && (kind && semantics)) && ((leads && (serial && (short && long))) && (new && item)))
+metric_parts name leads kind semantics serial short long item new = grind (arith, nat_tests)
 
 metrics_same : (words : List ℕ) → metrics_are_good words ≡ ((is_none (metric_name_fault words) && is_none (kind_fault words)) && (is_none (metrics_reference_fault words) && (is_none (metrics_duplicate_fault words) && is_none (metrics_serial_fault words))))
 unfolding metrics_are_good is_good_metric has_good_fields metric_name_fault kind_fault metrics_reference_fault metrics_duplicate_fault metrics_serial_fault
@@ -118,16 +126,16 @@ metrics_same words =
     let offset : (ℕ → ℕ) = λ i. metric_at words i in
     let name : (ℕ → Bool) = λ i. has_name words (offset i) in
     let codes : (ℕ → Bool) = λ i. is_kind (type_in_metric words (offset i)) && is_semantics (semantics_in_metric words (offset i)) in
-    let refs : (ℕ → Bool) = λ i. serial_leads words (serial_in_metric words (offset i)) && (help_leads words (short_offset_in_metric (offset i)) && help_leads words (long_offset_in_metric (offset i))) in
+    let refs : (ℕ → Bool) = λ i. name_leads words (offset i) && (serial_leads words (serial_in_metric words (offset i)) && (help_leads words (short_offset_in_metric words (offset i)) && help_leads words (long_offset_in_metric words (offset i)))) in
     let item : (ℕ → Bool) = λ i. is_item (item_in_metric words (offset i)) in
     all_same n (is_good_metric words) (λ i. (name i && codes i) && (refs i && (is_new_metric words i && item i))) (λ i.
-    metric_parts (name i) (is_kind (type_in_metric words (offset i))) (is_semantics (semantics_in_metric words (offset i))) (serial_leads words (serial_in_metric words (offset i)))
-    (help_leads words (short_offset_in_metric (offset i))) (help_leads words (long_offset_in_metric (offset i))) (item i) (is_new_metric words i))
+    metric_parts (name i) (name_leads words (offset i)) (is_kind (type_in_metric words (offset i))) (is_semantics (semantics_in_metric words (offset i))) (serial_leads words (serial_in_metric words (offset i)))
+    (help_leads words (short_offset_in_metric words (offset i))) (help_leads words (long_offset_in_metric words (offset i))) (item i) (is_new_metric words i))
     ∙ sym (all_both n (λ i. name i && codes i) (λ i. refs i && (is_new_metric words i && item i)))
     ∙ both _ _ _ _ (sym (all_both n name codes)) (sym (all_both n refs (λ i. is_new_metric words i && item i)) ∙ ap (λ b. all_below n refs && b) (sym (all_both n (is_new_metric words) item)))
     ∙ sym (both _ _ _ _ (both _ _ _ _ (none_tests n name offset) (none_first n (λ i. code_fault words (offset i)) ∙ all_same n _ codes (λ i. metric_codes words (offset i))))
     (both _ _ _ _ (none_first n (λ i. metric_reference_fault words (offset i)) ∙ all_same n _ refs (λ i. metric_references words (offset i)))
-    (both _ _ _ _ (none_tests n (is_new_metric words) offset) (none_tests n item (λ i. item_offset_in_metric (offset i))))))
+    (both _ _ _ _ (none_tests n (is_new_metric words) offset) (none_tests n item (λ i. item_offset_in_metric words (offset i))))))
 
 -- Values
 

@@ -9,11 +9,14 @@ pub mod FormSays
 pub mod Goods
 pub mod Images
 pub mod KeyLists
+pub mod Lacking
 pub mod Lies
 pub mod Looked
 pub mod Lowest
+pub mod Named
 pub mod Nones
 pub mod RowLists
+pub mod Runs
 pub mod Saying
 pub mod SectionFacts
 pub mod Seen
@@ -26,3 +29,4 @@ pub mod Standing
 pub mod Texts
 pub mod Told
 pub mod Versions
+pub mod Widths

@@ -2,12 +2,13 @@
 use Rattle.std.proofs.Common.{◌≡◌, ◌≢◌, ℕ, ◌+◌, ◌*◌, ◌<◌, ◌≤◌, Bool, true, false, not, ◌||◌, ◌⊎◌, inl, inr, List, length, ap, ap₂, sym, subst, ◌∙◌, refl, arith, nat_eq, nat_le, nat_lt, ⊎_elim}
 use Rattle.std.proofs.lemmas.Bool.Decides.{nat_tests}
 use Rattle.std.proofs.lemmas.Bool.{cases_order}
-use Rattle.mmv_layout.specs.Contents.{bytes_in, is_short, contents_in, type_in, count_in, offset_in, section_bytes, end_in, are_apart, is_first_of_type, has_good_section, sections_are_good, find_section, section_of, entry_at, entry_end}
+use Rattle.mmv_layout.specs.Contents.{version_in, bytes_in, is_short, contents_in, type_in, count_in, offset_in, section_bytes, end_in, are_apart, is_first_of_type, has_good_section, sections_are_good, find_section, section_of, entry_at, entry_end}
 use Rattle.mmv_layout.specs.Sizes.{header_size, entry_size, indom_size, instance_size, metric_size, value_size, string_size}
 use Rattle.mmv_layout.specs.EntryFields.{metric_offset_in_value}
 use Rattle.mmv_layout.specs.Entries.{indom_count, indom_at, instance_count, instance_at, metric_count, metric_at, value_count, value_at, string_count, string_at}
 use Rattle.mmv_layout.specs.Images.{has_good_header, is_image}
 use Rattle.mmv_layout.proofs.Below.{all_at, both_left, both_right}
+use Rattle.mmv_layout.proofs.Widths.{entry_inside}
 use Rattle.mmv_layout.proofs.Images.{short_words}
 use Rattle.mmv_layout.proofs.Goods.{le_of, header, sections}
 use Rattle.mmv_layout.proofs.EntryOffsets.{Entry, entry_of, Lies, section_stands, some_of, Stands, value_stands}
@@ -47,7 +48,7 @@ entry_within words i good = le_of (entry_end i) (bytes_in words) (both_left _ _ 
 
 pub values_behind : (words : List ℕ) (i : ℕ) → is_image words ≡ true → i < value_count words → entry_at (contents_in words) ≤ value_at words i
 values_behind words i h below =
-    let lies : Lies words (section_of words 4).offset (section_bytes 4 (section_of words 4).count) = section_stands words 4 h (some_of i (value_count words) below) in
+    let lies : Lies words (section_of words 4).offset (section_bytes (version_in words) 4 (section_of words 4).count) = section_stands words 4 h (some_of i (value_count words) below) in
     let behind : entry_at (contents_in words) ≤ (section_of words 4).offset = lies.behind in omega arith
 
 pub looked_contents : (words : List ℕ) (i o : ℕ) → is_image words ≡ true → i < contents_in words → o < entry_size → Looked words (entry_at i + o)
@@ -83,16 +84,16 @@ entries_apart words j i first less some others =
     (either_end (nat_eq (count_in words j) 0) (nat_eq (count_in words i) 0) _ _
     (both_right _ _ (all_at i j (λ j. are_apart words j i) first less)) (isnt_zero (count_in words j) some) (isnt_zero (count_in words i) others))
 
-section_end : (words : List ℕ) (type n offset count : ℕ) (e : Entry words type n offset count) → end_in words e.index ≡ offset + section_bytes type count
+section_end : (words : List ℕ) (type n offset count : ℕ) (e : Entry words type n offset count) → end_in words e.index ≡ offset + section_bytes (version_in words) type count
 unfolding end_in
-section_end words type n offset count e = ap₂ (λ p m. p + m) e.offset_is (ap₂ section_bytes e.type_is e.count_is)
+section_end words type n offset count e = ap₂ (λ p m. p + m) e.offset_is (ap₂ (section_bytes (version_in words)) e.type_is e.count_is)
 
 turned : {A B : Type 0} → A ⊎ B → B ⊎ A
 turned (inl a) = inr a
 turned (inr b) = inl b
 
 both_entries : (words : List ℕ) (s t n p q c d : ℕ) (e : Entry words s n p c) (f : Entry words t n q d) → (end_in words e.index ≤ offset_in words f.index) ⊎ (end_in words f.index ≤ offset_in words e.index)
-    → (p + section_bytes s c ≤ q) ⊎ (q + section_bytes t d ≤ p)
+    → (p + section_bytes (version_in words) s c ≤ q) ⊎ (q + section_bytes (version_in words) t d ≤ p)
 both_entries words s t n p q c d e f h =
     ⊎_elim
     (λ (a : end_in words e.index ≤ offset_in words f.index). inl (subst (λ m. m ≤ q) (section_end words s n p c e) (subst (λ m. end_in words e.index ≤ m) f.offset_is a)))
@@ -100,8 +101,8 @@ both_entries words s t n p q c d e f h =
 
 -- two sections with entries lie apart
 pub sections_apart : (words : List ℕ) (s t : ℕ) → is_image words ≡ true → s ≢ t → (section_of words s).count ≢ 0 → (section_of words t).count ≢ 0
-    → ((section_of words s).offset + section_bytes s (section_of words s).count ≤ (section_of words t).offset)
-    ⊎ ((section_of words t).offset + section_bytes t (section_of words t).count ≤ (section_of words s).offset)
+    → ((section_of words s).offset + section_bytes (version_in words) s (section_of words s).count ≤ (section_of words t).offset)
+    ⊎ ((section_of words t).offset + section_bytes (version_in words) t (section_of words t).count ≤ (section_of words s).offset)
 unfolding section_of
 sections_apart words s t h differ some others =
     let n : ℕ = contents_in words in
@@ -118,17 +119,17 @@ sections_apart words s t h differ some others =
     (cases_order e.index f.index))
 
 -- an offset in another section than that of the values
-pub looked_in : (words : List ℕ) (type d : ℕ) → is_image words ≡ true → type ≢ 4 → (section_of words type).count ≢ 0 → d < section_bytes type (section_of words type).count
+pub looked_in : (words : List ℕ) (type d : ℕ) → is_image words ≡ true → type ≢ 4 → (section_of words type).count ≢ 0 → d < section_bytes (version_in words) type (section_of words type).count
     → Looked words ((section_of words type).offset + d)
 unfolding section_bytes
 looked_in words type d h other some below =
-    let lies : Lies words (section_of words type).offset (section_bytes type (section_of words type).count) = section_stands words type h some in
+    let lies : Lies words (section_of words type).offset (section_bytes (version_in words) type (section_of words type).count) = section_stands words type h some in
     record {
-      within = before (section_of words type).offset (section_bytes type (section_of words type).count) (length words) below lies.within;
+      within = before (section_of words type).offset (section_bytes (version_in words) type (section_of words type).count) (length words) below lies.within;
       outside = inr (behind (contents_in words) (section_of words type).offset lies.behind);
       apart = λ j values. ⊎_elim
-          (λ (a : (section_of words type).offset + section_bytes type (section_of words type).count ≤ (section_of words 4).offset).
-          inl (first (section_of words type).offset (section_bytes type (section_of words type).count) (section_of words 4).offset j below a))
+          (λ (a : (section_of words type).offset + section_bytes (version_in words) type (section_of words type).count ≤ (section_of words 4).offset).
+          inl (first (section_of words type).offset (section_bytes (version_in words) type (section_of words type).count) (section_of words 4).offset j below a))
           (λ (b : (section_of words 4).offset + value_size * (section_of words 4).count ≤ (section_of words type).offset).
           inr (last (section_of words type).offset (section_of words 4).offset (section_of words 4).count j values b))
           (sections_apart words type 4 h other some (some_of j (value_count words) values));
@@ -155,23 +156,23 @@ looked_indom words i o h below small =
     inside : (n : ℕ) → i < n → indom_size * i + o < indom_size * n
     inside n a = omega arith
 
-pub looked_instance : (words : List ℕ) (i o : ℕ) → is_image words ≡ true → i < instance_count words → o < instance_size → Looked words (instance_at words i + o)
+pub looked_instance : (words : List ℕ) (i o : ℕ) → is_image words ≡ true → i < instance_count words → o < instance_size (version_in words) → Looked words (instance_at words i + o)
 unfolding section_bytes
 looked_instance words i o h below small =
-    let offset : (section_of words 2).offset + (instance_size * i + o) ≡ instance_at words i + o = omega arith in
-    subst (Looked words) offset (looked_in words 2 (instance_size * i + o) h (λ e. absurd (omega arith)) (some_of i (instance_count words) below) (inside (section_of words 2).count below))
+    let offset : (section_of words 2).offset + (instance_size (version_in words) * i + o) ≡ instance_at words i + o = omega arith in
+    subst (Looked words) offset (looked_in words 2 (instance_size (version_in words) * i + o) h (λ e. absurd (omega arith)) (some_of i (instance_count words) below) (inside (section_of words 2).count below))
   where
-    inside : (n : ℕ) → i < n → instance_size * i + o < instance_size * n
-    inside n a = omega arith
+    inside : (n : ℕ) → i < n → instance_size (version_in words) * i + o < instance_size (version_in words) * n
+    inside n a = entry_inside (instance_size (version_in words)) i n o a small
 
-pub looked_metric : (words : List ℕ) (i o : ℕ) → is_image words ≡ true → i < metric_count words → o < metric_size → Looked words (metric_at words i + o)
+pub looked_metric : (words : List ℕ) (i o : ℕ) → is_image words ≡ true → i < metric_count words → o < metric_size (version_in words) → Looked words (metric_at words i + o)
 unfolding section_bytes
 looked_metric words i o h below small =
-    let offset : (section_of words 3).offset + (metric_size * i + o) ≡ metric_at words i + o = omega arith in
-    subst (Looked words) offset (looked_in words 3 (metric_size * i + o) h (λ e. absurd (omega arith)) (some_of i (metric_count words) below) (inside (section_of words 3).count below))
+    let offset : (section_of words 3).offset + (metric_size (version_in words) * i + o) ≡ metric_at words i + o = omega arith in
+    subst (Looked words) offset (looked_in words 3 (metric_size (version_in words) * i + o) h (λ e. absurd (omega arith)) (some_of i (metric_count words) below) (inside (section_of words 3).count below))
   where
-    inside : (n : ℕ) → i < n → metric_size * i + o < metric_size * n
-    inside n a = omega arith
+    inside : (n : ℕ) → i < n → metric_size (version_in words) * i + o < metric_size (version_in words) * n
+    inside n a = entry_inside (metric_size (version_in words)) i n o a small
 
 pub looked_string : (words : List ℕ) (i o : ℕ) → is_image words ≡ true → i < string_count words → o < string_size → Looked words (string_at words i + o)
 unfolding section_bytes

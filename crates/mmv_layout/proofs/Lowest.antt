@@ -3,17 +3,19 @@ use Rattle.std.proofs.Common.{◌≡◌, ◌≢◌, ℕ, zero, suc, ◌+◌, ◌
 use Rattle.std.specs.Prelude.{Option, Some, None}
 use Rattle.std.proofs.Math.Nat.{mul-le-mul_left}
 use Rattle.std.proofs.lemmas.Bool.Decides.{nat_tests}
-use Rattle.mmv_layout.specs.Sizes.{indom_size, instance_size, metric_size, value_size, string_size}
+use Rattle.mmv_layout.specs.Sizes.{name_width, indom_size, instance_size, metric_size, value_size, string_size}
 use Rattle.mmv_layout.specs.EntryFields.{serial_in_indom, first_offset_in_indom, short_offset_in_indom, long_offset_in_indom, domain_in_instance, number_offset_in_instance, number_in_instance, name_offset_in_instance, item_offset_in_metric, item_in_metric, type_offset_in_metric, type_in_metric, semantics_offset_in_metric, semantics_in_metric, serial_offset_in_metric, serial_in_metric, short_offset_in_metric, long_offset_in_metric, extra_offset_in_value, metric_offset_in_value, instance_offset_in_value, instance_in_value}
-use Rattle.mmv_layout.specs.Contents.{bytes_in, contents_in, cluster_offset, cluster_in, entry_at, type_in, offset_field_in, entry_lies, has_good_section, is_aligned, section_of}
-use Rattle.mmv_layout.specs.Entries.{indom_count, indom_at, instance_count, instance_at, metric_count, metric_at, value_count, value_at, string_count, string_at, leads, leads_to_indom, leads_to_instance, has_text, has_name, is_good_string, is_kind, is_semantics, has_good_run, help_leads, lies_in_run, is_no_domain, serial_leads, leads_to_metric, metric_of, choice_leads, instance_leads, is_new_indom, is_new_instance, is_new_metric, is_new_value, is_serial, is_instance_number, is_item}
+use Rattle.mmv_layout.specs.Contents.{version_in, bytes_in, contents_in, cluster_offset, cluster_in, entry_at, type_in, offset_field_in, entry_lies, has_good_section, is_aligned, section_of}
+use Rattle.mmv_layout.specs.Entries.{indom_count, indom_at, instance_count, instance_at, metric_count, metric_at, value_count, value_at, string_count, string_at, leads, leads_to_indom, leads_to_instance, has_text, has_name, is_good_string, is_kind, is_semantics, has_good_run, help_leads, name_leads, lies_in_run, is_no_domain, serial_leads, leads_to_metric, metric_of, choice_leads, instance_leads, is_new_indom, is_new_instance, is_new_metric, is_new_value, is_serial, is_instance_number, is_item}
 use Rattle.mmv_layout.specs.Below.{some_below}
 use Rattle.mmv_layout.specs.Images.{is_cluster}
-use Rattle.mmv_layout.specs.Faults.{or_else, lower, unless, first_below, bad_type, section_fault, offset_fault, instance_name_fault, metric_name_fault, string_fault, name_fault, code_fault, kind_fault, help_fault, indom_reference_fault, metric_reference_fault, value_reference_fault, indoms_reference_fault, instances_reference_fault, metrics_reference_fault, values_reference_fault, reference_fault, indoms_duplicate_fault, instances_duplicate_fault, metrics_duplicate_fault, values_duplicate_fault, duplicate_fault, indoms_serial_fault, instances_serial_fault, metrics_serial_fault, cluster_fault, serial_fault}
-use Rattle.mmv_layout.specs.Lowest.{IsLowest, Fails, InSome, CodeFails, IndomReferenceFails, MetricReferenceFails, IsInstanceOf, HasInstance, ValueReferenceFails, SectionIs, SectionsInOrder, OffsetsAreLowest, NamesAreLowest, KindsAreLowest, ReferencesAreLowest, DuplicatesAreLowest, SerialsAreLowest}
+use Rattle.mmv_layout.specs.Faults.{or_else, lower, unless, first_below, bad_type, section_fault, offset_fault, instance_name_fault, metric_name_fault, string_fault, name_fault, code_fault, kind_fault, help_fault, indom_reference_fault, name_reference_fault, instance_reference_fault, metric_reference_fault, value_reference_fault, indoms_reference_fault, instances_reference_fault, metrics_reference_fault, values_reference_fault, reference_fault, indoms_duplicate_fault, instances_duplicate_fault, metrics_duplicate_fault, values_duplicate_fault, duplicate_fault, indoms_serial_fault, instances_serial_fault, metrics_serial_fault, cluster_fault, serial_fault}
+use Rattle.mmv_layout.specs.Lowest.{IsLowest, Fails, InSome, LacksName, IsEmpty, BreaksTheRule, CodeFails, IndomReferenceFails, InstanceReferenceFails, MetricReferenceFails, IsInstanceOf, HasInstance, ValueReferenceFails, SectionIs, SectionsInOrder, OffsetsAreLowest, NamesAreLowest, KindsAreLowest, ReferencesAreLowest, DuplicatesAreLowest, SerialsAreLowest}
 use Rattle.mmv_layout.proofs.Below.{all_at, some_holds, both_left, both_right}
+use Rattle.mmv_layout.proofs.Lacking.{text_lacks, lacks_text, name_lacks, lacks_name}
 use Rattle.mmv_layout.proofs.Nones.{tests_pass}
 use Rattle.mmv_layout.proofs.Lies.{le_of, eq_of}
+use Rattle.mmv_layout.proofs.Widths.{width_least}
 
 some_same : (a b : ℕ) → Some a ≡ Some b → a ≡ b
 some_same a b h = cc
@@ -132,22 +134,13 @@ pub offsets_are_lowest : OffsetsAreLowest
 unfolding offset_fault
 offsets_are_lowest words = tests_lowest (contents_in words) 48 16 (λ i. is_aligned words i) (λ i. offset_field_in i) (λ i. (omega arith, omega arith))
 
-pub names_are_lowest : NamesAreLowest
-unfolding name_fault instance_name_fault metric_name_fault string_fault
-names_are_lowest words =
-    lower_lowest _ _ (instance_name_fault words) (lower (metric_name_fault words) (string_fault words))
-    (tests_lowest (instance_count words) (section_of words 2).offset instance_size (λ i. has_text words (name_offset_in_instance (instance_at words i))) (λ i. name_offset_in_instance (instance_at words i)) (λ i. (omega arith, omega arith)))
-    (lower_lowest _ _ (metric_name_fault words) (string_fault words)
-    (tests_lowest (metric_count words) (section_of words 3).offset metric_size (λ i. has_name words (metric_at words i)) (λ i. metric_at words i) (λ i. (omega arith, omega arith)))
-    (tests_lowest (string_count words) (section_of words 5).offset string_size (λ i. is_good_string words i) (λ i. string_at words i) (λ i. (omega arith, omega arith))))
-
 pub kinds_are_lowest : KindsAreLowest
 unfolding kind_fault code_fault
 kinds_are_lowest words =
-    entries_lowest (section_of words 3).offset metric_size (λ i. code_fault words (metric_at words i)) (λ i. CodeFails words (metric_at words i))
-    (λ i. two_lowest (is_kind (type_in_metric words (metric_at words i))) (is_semantics (semantics_in_metric words (metric_at words i))) (type_offset_in_metric (metric_at words i)) (semantics_offset_in_metric (metric_at words i)) (omega arith))
-    (λ i x. ⊎_elim (λ (h : Fails (is_kind (type_in_metric words (metric_at words i))) (type_offset_in_metric (metric_at words i)) x). at_field _ _ _ x (omega arith) (omega arith) h.1)
-    (λ (h : Fails (is_semantics (semantics_in_metric words (metric_at words i))) (semantics_offset_in_metric (metric_at words i)) x). at_field _ _ _ x (omega arith) (omega arith) h.1))
+    entries_lowest (section_of words 3).offset (metric_size (version_in words)) (λ i. code_fault words (metric_at words i)) (λ i. CodeFails words (metric_at words i))
+    (λ i. two_lowest (is_kind (type_in_metric words (metric_at words i))) (is_semantics (semantics_in_metric words (metric_at words i))) (type_offset_in_metric words (metric_at words i)) (semantics_offset_in_metric words (metric_at words i)) (omega arith))
+    (λ i x. ⊎_elim (λ (h : Fails (is_kind (type_in_metric words (metric_at words i))) (type_offset_in_metric words (metric_at words i)) x). at_field _ _ _ x (omega arith) (omega arith) h.1)
+    (λ (h : Fails (is_semantics (semantics_in_metric words (metric_at words i))) (semantics_offset_in_metric words (metric_at words i)) x). at_field _ _ _ x (omega arith) (omega arith) h.1))
     (metric_count words)
 
 pub duplicates_are_lowest : DuplicatesAreLowest
@@ -156,9 +149,9 @@ duplicates_are_lowest words =
     lower_lowest _ _ (lower (indoms_duplicate_fault words) (instances_duplicate_fault words)) (lower (metrics_duplicate_fault words) (values_duplicate_fault words))
     (lower_lowest _ _ (indoms_duplicate_fault words) (instances_duplicate_fault words)
     (tests_lowest (indom_count words) (section_of words 1).offset indom_size (λ i. is_new_indom words i) (λ i. indom_at words i) (λ i. (omega arith, omega arith)))
-    (tests_lowest (instance_count words) (section_of words 2).offset instance_size (λ i. is_new_instance words i) (λ i. instance_at words i) (λ i. (omega arith, omega arith))))
+    (tests_lowest (instance_count words) (section_of words 2).offset (instance_size (version_in words)) (λ i. is_new_instance words i) (λ i. instance_at words i) (λ i. (omega arith, omega arith))))
     (lower_lowest _ _ (metrics_duplicate_fault words) (values_duplicate_fault words)
-    (tests_lowest (metric_count words) (section_of words 3).offset metric_size (λ i. is_new_metric words i) (λ i. metric_at words i) (λ i. (omega arith, omega arith)))
+    (tests_lowest (metric_count words) (section_of words 3).offset (metric_size (version_in words)) (λ i. is_new_metric words i) (λ i. metric_at words i) (λ i. (omega arith, omega arith)))
     (tests_lowest (value_count words) (section_of words 4).offset value_size (λ i. is_new_value words i) (λ i. value_at words i) (λ i. (omega arith, omega arith))))
 
 -- Numbers out of range
@@ -206,12 +199,28 @@ serials_are_lowest words =
     (λ i. (serial_in_indom words (indom_at words i) ≡ 0) ⊎ (1023 < serial_in_indom words (indom_at words i)))
     (λ i. serial_far (serial_in_indom words (indom_at words i))) (λ i. far_serial (serial_in_indom words (indom_at words i))) (λ i. (omega arith, omega arith)))
     (lower_lowest _ _ (instances_serial_fault words) (metrics_serial_fault words)
-    (said_lowest (instance_count words) (section_of words 2).offset instance_size (λ i. is_instance_number (number_in_instance words (instance_at words i))) (λ i. number_offset_in_instance (instance_at words i))
+    (said_lowest (instance_count words) (section_of words 2).offset (instance_size (version_in words)) (λ i. is_instance_number (number_in_instance words (instance_at words i))) (λ i. number_offset_in_instance (instance_at words i))
     (λ i. 2147483648 ≤ number_in_instance words (instance_at words i))
     (λ i. number_far (number_in_instance words (instance_at words i))) (λ i. far_number (number_in_instance words (instance_at words i))) (λ i. (omega arith, omega arith)))
-    (said_lowest (metric_count words) (section_of words 3).offset metric_size (λ i. is_item (item_in_metric words (metric_at words i))) (λ i. item_offset_in_metric (metric_at words i))
+    (said_lowest (metric_count words) (section_of words 3).offset (metric_size (version_in words)) (λ i. is_item (item_in_metric words (metric_at words i))) (λ i. item_offset_in_metric words (metric_at words i))
     (λ i. 1023 < item_in_metric words (metric_at words i))
     (λ i. item_far (item_in_metric words (metric_at words i))) (λ i. far_item (item_in_metric words (metric_at words i))) (λ i. (omega arith, omega arith)))))
+
+-- Names
+
+pub names_are_lowest : NamesAreLowest
+unfolding name_fault instance_name_fault metric_name_fault string_fault
+names_are_lowest words =
+    let some : 8 ≤ name_width (version_in words) = width_least (version_in words) in
+    lower_lowest _ _ (instance_name_fault words) (lower (metric_name_fault words) (string_fault words))
+    (said_lowest (instance_count words) (section_of words 2).offset (instance_size (version_in words)) (λ i. has_text words (name_offset_in_instance (instance_at words i))) (λ i. name_offset_in_instance (instance_at words i))
+    (λ i. LacksName IsEmpty words (name_offset_in_instance (instance_at words i)))
+    (λ i. text_lacks words (name_offset_in_instance (instance_at words i))) (λ i. lacks_text words (name_offset_in_instance (instance_at words i))) (λ i. (omega arith, omega arith)))
+    (lower_lowest _ _ (metric_name_fault words) (string_fault words)
+    (said_lowest (metric_count words) (section_of words 3).offset (metric_size (version_in words)) (λ i. has_name words (metric_at words i)) (λ i. metric_at words i)
+    (λ i. LacksName BreaksTheRule words (metric_at words i))
+    (λ i. name_lacks words (metric_at words i)) (λ i. lacks_name words (metric_at words i)) (λ i. (omega arith, omega arith)))
+    (tests_lowest (string_count words) (section_of words 5).offset string_size (λ i. is_good_string words i) (λ i. string_at words i) (λ i. (omega arith, omega arith))))
 
 -- References
 
@@ -265,7 +274,7 @@ module _ (words : List ℕ) (value : ℕ) where
           → HasInstance words value
       here true e h = inl (null_of _ e, eq_of (instance_in_value words value) 0 h)
       here false e h =
-          let (k, known, stands) = leads_at (section_of words 2).offset (section_of words 2).count instance_size (instance_in_value words value) (both_left _ _ h) in
+          let (k, known, stands) = leads_at (section_of words 2).offset (section_of words 2).count (instance_size (version_in words)) (instance_in_value words value) (both_left _ _ h) in
           let (d, counted, leads) = leads_at (section_of words 1).offset (section_of words 1).count indom_size (domain_in_instance words (instance_in_value words value)) (both_left _ _ (both_right _ _ h)) in
           inr (
             named_of _ e,
@@ -287,7 +296,7 @@ module _ (words : List ℕ) (value : ℕ) where
       taken (is_no_domain (serial_in_metric words (metric_of words value))) _ _ (of_null _ none.0) (of_eq (instance_in_value words value) 0 none.1))
       (λ (some : ((serial_in_metric words (metric_of words value) ≢ 0) × (serial_in_metric words (metric_of words value) ≢ 4294967295)) × IsInstanceOf words (serial_in_metric words (metric_of words value)) (instance_in_value words value)).
       other (is_no_domain (serial_in_metric words (metric_of words value))) _ _ (of_named _ some.0.0 some.0.1)
-      (and_of _ _ (at_leads (section_of words 2).offset (section_of words 2).count instance_size (instance_in_value words value) some.1.instance some.1.known some.1.stands)
+      (and_of _ _ (at_leads (section_of words 2).offset (section_of words 2).count (instance_size (version_in words)) (instance_in_value words value) some.1.instance some.1.known some.1.stands)
       (and_of _ _ (at_leads (section_of words 1).offset (section_of words 1).count indom_size (domain_in_instance words (instance_in_value words value)) some.1.indom some.1.counted some.1.leads)
       (of_eq (serial_in_indom words (domain_in_instance words (instance_in_value words value))) (serial_in_metric words (metric_of words value)) (ap (serial_in_indom words) some.1.leads ∙ some.1.has)))))
     where
@@ -350,8 +359,41 @@ three_within lo hi a b c p q r at l m n o =
     ⊎_elim (λ (f : Fails a p at). at_field lo hi p at (omega arith) (omega arith) f.1)
     (⊎_elim (λ (f : Fails b q at). at_field lo hi q at (omega arith) (omega arith) f.1) (λ (f : Fails c r at). at_field lo hi r at (omega arith) (omega arith) f.1))
 
+-- the references of an instance, and of a metric, whose name stands in front
+instance_within : (words : List ℕ) (instance at : ℕ) → InstanceReferenceFails words instance at → (instance ≤ at) × (at < instance + instance_size (version_in words))
+instance_within words instance at =
+    ⊎_elim (λ (f : Fails (lies_in_run words instance) instance at). at_field _ _ _ at (omega arith) (omega arith) f.1)
+    (λ (f : Fails (name_leads words (name_offset_in_instance instance)) (name_offset_in_instance instance) at).
+    let some : 8 ≤ name_width (version_in words) = width_least (version_in words) in at_field _ _ _ at (omega arith) (omega arith) f.1)
+
+module _ (words : List ℕ) (metric : ℕ) where
+  Others : ℕ → Type 0
+  Others at =
+      Fails (serial_leads words (serial_in_metric words metric)) (serial_offset_in_metric words metric) at
+      ⊎ (Fails (help_leads words (short_offset_in_metric words metric)) (short_offset_in_metric words metric) at
+      ⊎ Fails (help_leads words (long_offset_in_metric words metric)) (long_offset_in_metric words metric) at)
+
+  others_within : (at : ℕ) → Others at → (metric ≤ at) × (at < metric + metric_size (version_in words))
+  unfolding Others
+  others_within at =
+      three_within metric (metric + metric_size (version_in words)) (serial_leads words (serial_in_metric words metric)) (help_leads words (short_offset_in_metric words metric)) (help_leads words (long_offset_in_metric words metric))
+      (serial_offset_in_metric words metric) (short_offset_in_metric words metric) (long_offset_in_metric words metric) at (omega arith) (omega arith) (omega arith) (omega arith)
+
+  metric_lowest : IsLowest (MetricReferenceFails words metric) (metric_reference_fault words metric)
+  unfolding metric_reference_fault name_reference_fault help_fault Others
+  metric_lowest =
+      else_lowest (Fails (name_leads words metric) metric) Others (unless (name_leads words metric) metric) _
+      (λ x y f g. subst (λ p. p ≤ y) (sym f.1) (others_within y g).0) (unless_lowest (name_leads words metric) metric)
+      (three_lowest (serial_leads words (serial_in_metric words metric)) (help_leads words (short_offset_in_metric words metric)) (help_leads words (long_offset_in_metric words metric))
+      (serial_offset_in_metric words metric) (short_offset_in_metric words metric) (long_offset_in_metric words metric) (omega arith) (omega arith))
+
+  metric_within : (at : ℕ) → MetricReferenceFails words metric at → (metric ≤ at) × (at < metric + metric_size (version_in words))
+  unfolding Others
+  metric_within at =
+      ⊎_elim (λ (f : Fails (name_leads words metric) metric at). at_field _ _ _ at (omega arith) (omega arith) f.1) (λ (g : Others at). others_within at g)
+
 pub references_are_lowest : ReferencesAreLowest
-unfolding reference_fault indoms_reference_fault indom_reference_fault help_fault instances_reference_fault metrics_reference_fault metric_reference_fault values_reference_fault
+unfolding reference_fault indoms_reference_fault indom_reference_fault help_fault instances_reference_fault instance_reference_fault name_reference_fault metrics_reference_fault values_reference_fault
 references_are_lowest words =
     let help : (ℕ → Bool) = λ at. help_leads words at in
     lower_lowest _ _ (lower (indoms_reference_fault words) (instances_reference_fault words)) (lower (metrics_reference_fault words) (values_reference_fault words))
@@ -360,11 +402,12 @@ references_are_lowest words =
     (λ i. three_lowest (has_good_run words (indom_at words i)) (help (short_offset_in_indom (indom_at words i))) (help (long_offset_in_indom (indom_at words i))) (first_offset_in_indom (indom_at words i)) (short_offset_in_indom (indom_at words i)) (long_offset_in_indom (indom_at words i)) (omega arith) (omega arith))
     (λ i x. three_within (indom_at words i) (indom_at words i + indom_size) (has_good_run words (indom_at words i)) (help (short_offset_in_indom (indom_at words i))) (help (long_offset_in_indom (indom_at words i))) (first_offset_in_indom (indom_at words i)) (short_offset_in_indom (indom_at words i)) (long_offset_in_indom (indom_at words i)) x (omega arith) (omega arith) (omega arith) (omega arith))
     (indom_count words))
-    (tests_lowest (instance_count words) (section_of words 2).offset instance_size (λ i. lies_in_run words (instance_at words i)) (λ i. instance_at words i) (λ i. (omega arith, omega arith))))
+    (entries_lowest (section_of words 2).offset (instance_size (version_in words)) (λ i. instance_reference_fault words (instance_at words i)) (λ i. InstanceReferenceFails words (instance_at words i))
+    (λ i. two_lowest (lies_in_run words (instance_at words i)) (name_leads words (name_offset_in_instance (instance_at words i))) (instance_at words i) (name_offset_in_instance (instance_at words i)) (omega arith))
+    (λ i x. instance_within words (instance_at words i) x) (instance_count words)))
     (lower_lowest _ _ (metrics_reference_fault words) (values_reference_fault words)
-    (entries_lowest (section_of words 3).offset metric_size (λ i. metric_reference_fault words (metric_at words i)) (λ i. MetricReferenceFails words (metric_at words i))
-    (λ i. three_lowest (serial_leads words (serial_in_metric words (metric_at words i))) (help (short_offset_in_metric (metric_at words i))) (help (long_offset_in_metric (metric_at words i))) (serial_offset_in_metric (metric_at words i)) (short_offset_in_metric (metric_at words i)) (long_offset_in_metric (metric_at words i)) (omega arith) (omega arith))
-    (λ i x. three_within (metric_at words i) (metric_at words i + metric_size) (serial_leads words (serial_in_metric words (metric_at words i))) (help (short_offset_in_metric (metric_at words i))) (help (long_offset_in_metric (metric_at words i))) (serial_offset_in_metric (metric_at words i)) (short_offset_in_metric (metric_at words i)) (long_offset_in_metric (metric_at words i)) x (omega arith) (omega arith) (omega arith) (omega arith))
+    (entries_lowest (section_of words 3).offset (metric_size (version_in words)) (λ i. metric_reference_fault words (metric_at words i)) (λ i. MetricReferenceFails words (metric_at words i))
+    (λ i. metric_lowest words (metric_at words i)) (λ i x. metric_within words (metric_at words i) x)
     (metric_count words))
     (entries_lowest (section_of words 4).offset value_size (λ i. value_reference_fault words (value_at words i)) (λ i. ValueReferenceFails words (value_at words i))
     (λ i. value_lowest words (value_at words i)) (λ i x. value_within words (value_at words i) x) (value_count words)))

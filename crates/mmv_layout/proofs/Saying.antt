@@ -9,9 +9,9 @@ use Rattle.pcp_base.specs.declared.kind.Semantics.{Semantics}
 use Rattle.pcp_base.specs.declared.kind.Semantics.TheVariants as meanings
 use Rattle.mmv_layout.specs.Fields.{number64}
 use Rattle.mmv_layout.specs.Sizes.{indom_size, instance_size, metric_size, value_size, string_size}
-use Rattle.mmv_layout.specs.EntryFields.{count_in_indom, first_in_indom, short_offset_in_indom, long_offset_in_indom, type_in_metric, semantics_in_metric, serial_in_metric, short_offset_in_metric, long_offset_in_metric, extra_in_value, instance_in_value}
-use Rattle.mmv_layout.specs.Contents.{section_of, first_generation, second_generation}
-use Rattle.mmv_layout.specs.Entries.{indom_at, metric_count, metric_at, value_count, value_at, help_leads, is_good_indom, is_good_metric, has_good_fields, is_good_value, metric_of, instance_leads, choice_leads, is_no_domain, is_kind, is_semantics}
+use Rattle.mmv_layout.specs.EntryFields.{name_offset_in_instance, count_in_indom, first_in_indom, short_offset_in_indom, long_offset_in_indom, type_in_metric, semantics_in_metric, serial_in_metric, short_offset_in_metric, long_offset_in_metric, extra_in_value, instance_in_value}
+use Rattle.mmv_layout.specs.Contents.{version_in, section_of, first_generation, second_generation}
+use Rattle.mmv_layout.specs.Entries.{name_leads, indom_count, indom_at, metric_count, metric_at, value_count, value_at, run_at, help_leads, is_good_indom, is_good_metric, has_good_fields, is_good_value, metric_of, instance_leads, choice_leads, is_no_domain, is_kind, is_semantics}
 use Rattle.mmv_layout.specs.Images.{has_good_header, is_image}
 use Rattle.mmv_layout.proofs.Below.{both_left, both_right}
 use Rattle.mmv_layout.specs.declared.rows.IndomRow.{IndomRow}
@@ -22,6 +22,8 @@ use Rattle.mmv_layout.specs.declared.rows.Content.TheVariants.{Number, Choice, R
 use Rattle.mmv_layout.specs.declared.rows.Layout.{Layout}
 use Rattle.mmv_layout.specs.Rows.{list_below, number_of, string_text, help_of, instance_row, instances_of, indom_row, serial_of, metric_row, type_of, domain_of, instance_of, content_of, value_row, indoms_of, metrics_of, values_of, strings_of, layout_of}
 use Rattle.mmv_layout.specs.Says.{EachAt, InSection, LeadsTo, HelpAt, InstanceAt, IndomAt, IsNull, IsNamed, SerialIs, MetricAt, InstanceOf, ContentAt, ValueAt, TextAt, Says, SaysOneLayout}
+use Rattle.mmv_layout.proofs.Named.{name_there, name_only, metric_named}
+use Rattle.mmv_layout.proofs.Runs.{run_named}
 use Rattle.mmv_layout.proofs.RowLists.{rows_length, each_only, each_there}
 use Rattle.mmv_layout.proofs.Goods.{le_of, eq_of, ne_of, either, or_right, leads_there, header, good_indom, good_metric, good_value}
 
@@ -49,24 +51,31 @@ help_only words field (Some text) h =
 
 -- Domains
 
-instances_there : (words : List ℕ) (domain : ℕ) → EachAt (InstanceAt words) (first_in_indom words domain) instance_size (instances_of words domain)
-unfolding instances_of instance_row
-instances_there words domain = each_there (InstanceAt words) (instance_row words) instance_size (count_in_indom words domain) (first_in_indom words domain) (λ k h. (refl, refl))
+instance_row_there : (words : List ℕ) (instance : ℕ) → name_leads words (name_offset_in_instance instance) ≡ true → InstanceAt words instance (instance_row words instance)
+unfolding instance_row
+instance_row_there words instance leads = (refl, name_there words (name_offset_in_instance instance) leads)
+
+instances_there : (words : List ℕ) (i : ℕ) → is_image words ≡ true → i < indom_count words
+    → EachAt (InstanceAt words) (first_in_indom words (indom_at words i)) (instance_size (version_in words)) (instances_of words (indom_at words i))
+unfolding instances_of
+instances_there words i h below =
+    each_there (InstanceAt words) (instance_row words) (instance_size (version_in words)) (count_in_indom words (indom_at words i)) (first_in_indom words (indom_at words i))
+    (λ k within. instance_row_there words (run_at words (indom_at words i) k) (run_named words i k h below within))
 
 instances_count : (words : List ℕ) (domain : ℕ) → length (instances_of words domain) ≡ count_in_indom words domain
 unfolding instances_of
-instances_count words domain = rows_length (count_in_indom words domain) (λ k. instance_row words (first_in_indom words domain + instance_size * k))
+instances_count words domain = rows_length (count_in_indom words domain) (λ k. instance_row words (run_at words domain k))
 
 instance_only : (words : List ℕ) (instance : ℕ) (row : ℤ × List ℕ) → InstanceAt words instance row → row ≡ instance_row words instance
 unfolding instance_row
-instance_only words instance row h = ap₂ (λ a b. (a, b)) h.0 h.1
+instance_only words instance row h = ap₂ (λ a b. (a, b)) h.0 (name_only words (name_offset_in_instance instance) row.1 h.1)
 
-indom_there : (words : List ℕ) (i : ℕ) → is_good_indom words i ≡ true → IndomAt words (indom_at words i) (indom_row words (indom_at words i))
+indom_there : (words : List ℕ) (i : ℕ) → is_image words ≡ true → i < indom_count words → is_good_indom words i ≡ true → IndomAt words (indom_at words i) (indom_row words (indom_at words i))
 unfolding is_good_indom indom_row
-indom_there words i good = record {
+indom_there words i h below good = record {
   serial = refl;
   count = instances_count words (indom_at words i);
-  instances = instances_there words (indom_at words i);
+  instances = instances_there words i h below;
   short = help_there words (short_offset_in_indom (indom_at words i)) (both_left _ _ (both_left _ _ (both_left _ _ (both_left _ _ good))));
   long = help_there words (long_offset_in_indom (indom_at words i)) (both_right _ _ (both_left _ _ (both_left _ _ (both_left _ _ good))));
 }
@@ -83,8 +92,8 @@ indom_only : (words : List ℕ) (domain : ℕ) (row : IndomRow) → IndomAt word
 unfolding indom_row instances_of
 indom_only words domain row h =
     indom_rows_same row (indom_row words domain) h.serial
-    (each_only (InstanceAt words) (instance_row words) instance_size (instance_only words) (first_in_indom words domain) row.instances h.instances
-    ∙ ap (λ n. list_below n (λ k. instance_row words (first_in_indom words domain + instance_size * k))) h.count)
+    (each_only (InstanceAt words) (instance_row words) (instance_size (version_in words)) (instance_only words) (first_in_indom words domain) row.instances h.instances
+    ∙ ap (λ n. list_below n (λ k. instance_row words (run_at words domain k))) h.count)
     (help_only words (short_offset_in_indom domain) row.short h.short) (help_only words (long_offset_in_indom domain) row.long h.long)
 
 -- Metrics
@@ -149,25 +158,25 @@ pub metric_fields : (words : List ℕ) (i : ℕ) → is_good_metric words i ≡ 
 unfolding is_good_metric
 metric_fields words i good = both_right _ _ (both_left _ _ good)
 
-metric_there : (words : List ℕ) (metric : ℕ) → has_good_fields words metric ≡ true → MetricAt words metric (metric_row words metric)
+metric_there : (words : List ℕ) (metric : ℕ) → name_leads words metric ≡ true → has_good_fields words metric ≡ true → MetricAt words metric (metric_row words metric)
 unfolding has_good_fields metric_row
-metric_there words metric good = record {
-  name = refl;
+metric_there words metric leads good = record {
+  name = name_there words metric leads;
   item = refl;
   kind = kind_there (type_in_metric words metric) (both_left _ _ (both_left _ _ (both_left _ _ (both_left _ _ (both_left _ _ good)))));
   semantics = semantics_there (semantics_in_metric words metric) (both_right _ _ (both_left _ _ (both_left _ _ (both_left _ _ (both_left _ _ good)))));
   units = refl;
   serial = serial_there (serial_in_metric words metric);
-  short = help_there words (short_offset_in_metric metric) (both_right _ _ (both_left _ _ (both_left _ _ good)));
-  long = help_there words (long_offset_in_metric metric) (both_right _ _ (both_left _ _ good));
+  short = help_there words (short_offset_in_metric words metric) (both_right _ _ (both_left _ _ (both_left _ _ good)));
+  long = help_there words (long_offset_in_metric words metric) (both_right _ _ (both_left _ _ good));
 }
 
 metric_only : (words : List ℕ) (metric : ℕ) (row : MetricRow) → MetricAt words metric row → row ≡ metric_row words metric
 unfolding metric_row
 metric_only words metric row h =
-    metric_rows_same row (metric_row words metric) h.name h.item (kind_only row.kind (type_in_metric words metric) h.kind)
+    metric_rows_same row (metric_row words metric) (name_only words metric row.name h.name) h.item (kind_only row.kind (type_in_metric words metric) h.kind)
     (semantics_only row.semantics (semantics_in_metric words metric) h.semantics) h.units (serial_only (serial_in_metric words metric) row.serial h.serial)
-    (help_only words (short_offset_in_metric metric) row.short h.short) (help_only words (long_offset_in_metric metric) row.long h.long)
+    (help_only words (short_offset_in_metric words metric) row.short h.short) (help_only words (long_offset_in_metric words metric) row.long h.long)
 
 -- Values
 
@@ -181,7 +190,7 @@ instance_there words value h =
     (λ (some : is_no_domain (domain_of words value) ≡ false).
     subst (λ b. InstanceOf words value (cond b None (Some (number_of words (instance_in_value words value))))) (sym some) (
       named_of (domain_of words value) some,
-      leads_there (section_of words 2).offset (section_of words 2).count instance_size offset (both_left _ _ (taken _ _ _ h some)),
+      leads_there (section_of words 2).offset (section_of words 2).count (instance_size (version_in words)) offset (both_left _ _ (taken _ _ _ h some)),
       refl,
     ))
     (either (is_no_domain (domain_of words value)))
@@ -254,7 +263,7 @@ value_rows_same row other a b c =
 pub value_metric : (words : List ℕ) (i : ℕ) → is_good_value words i ≡ true → LeadsTo (metric_count words) (metric_at words) (metric_of words (value_at words i))
 unfolding is_good_value
 value_metric words i good =
-    leads_there (section_of words 3).offset (section_of words 3).count metric_size (metric_of words (value_at words i)) (both_left _ _ (both_left _ _ (both_left _ _ good)))
+    leads_there (section_of words 3).offset (section_of words 3).count (metric_size (version_in words)) (metric_of words (value_at words i)) (both_left _ _ (both_left _ _ (both_left _ _ good)))
 
 metric_kind : (words : List ℕ) (metric : ℕ) → has_good_fields words metric ≡ true → is_kind (type_in_metric words metric) ≡ true
 unfolding has_good_fields
@@ -316,9 +325,9 @@ layout_says words h = record {
   flags = refl;
   pid = refl;
   cluster = refl;
-  indoms = in_section (IndomAt words) (indom_row words) indom_size (section_of words 1).offset (section_of words 1).count (λ i below. indom_there words i (good_indom words i h below));
-  metrics = in_section (MetricAt words) (metric_row words) metric_size (section_of words 3).offset (section_of words 3).count
-      (λ i below. metric_there words (metric_at words i) (metric_fields words i (good_metric words i h below)));
+  indoms = in_section (IndomAt words) (indom_row words) indom_size (section_of words 1).offset (section_of words 1).count (λ i below. indom_there words i h below (good_indom words i h below));
+  metrics = in_section (MetricAt words) (metric_row words) (metric_size (version_in words)) (section_of words 3).offset (section_of words 3).count
+      (λ i below. metric_there words (metric_at words i) (metric_named words i h below) (metric_fields words i (good_metric words i h below)));
   values = in_section (ValueAt words) (value_row words) value_size (section_of words 4).offset (section_of words 4).count (λ i below. value_there words i h below);
   strings = in_section (TextAt words) (string_text words) string_size (section_of words 5).offset (section_of words 5).count (λ i below. refl);
 }
@@ -328,7 +337,7 @@ unfolding layout_of indoms_of metrics_of values_of strings_of
 says_layout words other h =
     layouts_same other (layout_of words) h.version h.generation h.flags h.pid h.cluster
     (only_section (IndomAt words) (indom_row words) indom_size (section_of words 1).offset (section_of words 1).count other.indoms (indom_only words) h.indoms)
-    (only_section (MetricAt words) (metric_row words) metric_size (section_of words 3).offset (section_of words 3).count other.metrics (metric_only words) h.metrics)
+    (only_section (MetricAt words) (metric_row words) (metric_size (version_in words)) (section_of words 3).offset (section_of words 3).count other.metrics (metric_only words) h.metrics)
     (only_section (ValueAt words) (value_row words) value_size (section_of words 4).offset (section_of words 4).count other.values (value_only words) h.values)
     (only_section (TextAt words) (string_text words) string_size (section_of words 5).offset (section_of words 5).count other.strings (λ p text stands. stands) h.strings)
 

@@ -9,7 +9,7 @@ use Rattle.pcp_base.specs.declared.kind.Kind.TheVariants as kinds
 use Rattle.mmv_layout.specs.Fields.{number64}
 use Rattle.mmv_layout.specs.Sizes.{header_size, value_size}
 use Rattle.mmv_layout.specs.EntryFields.{extra_offset_in_value, extra_in_value, metric_offset_in_value}
-use Rattle.mmv_layout.specs.Contents.{section_bytes, section_of}
+use Rattle.mmv_layout.specs.Contents.{version_in, section_bytes, section_of}
 use Rattle.mmv_layout.specs.Entries.{leads, leads_to_string, value_count, value_at, string_count, string_at, choice_leads, is_good_value}
 use Rattle.mmv_layout.specs.Images.{has_good_header, is_image}
 use Rattle.mmv_layout.proofs.Below.{both_left, both_right, some_holds}
@@ -173,7 +173,7 @@ text_takes words kind value is takes = subst (λ k. TakesAs k (offsets_of words)
 
 section_whole : (words : List ℕ) (i : ℕ) → is_image words ≡ true → i < value_count words → (section_of words 4).offset % 8 ≡ 0
 section_whole words i h below =
-    let lies : Lies words (section_of words 4).offset (section_bytes 4 (section_of words 4).count) = section_stands words 4 h (some_of i (value_count words) below) in lies.whole
+    let lies : Lies words (section_of words 4).offset (section_bytes (version_in words) 4 (section_of words 4).count) = section_stands words 4 h (some_of i (value_count words) below) in lies.whole
 
 -- the word of a slot as the first or the second word of its value
 slot_offset : (words : List ℕ) (value : ℕ) (slot : Slot) (offset : ℕ) → value % 8 ≡ 0 → SlotIs words value slot → (offset < value) ⊎ (metric_offset_in_value value ≤ offset) → offset / 8 ≢ slot.word

@@ -15,7 +15,7 @@ text_more : (words : List ℕ) (at next n m : ℕ) → n ≡ suc m → next ≡ 
 unfolding text_at
 text_more words at next n m e f = rw (e, f) refl
 
-text_stops : (words : List ℕ) (at n : ℕ) → 0 < n → byte_at words at ≡ 0 → text_at words at n ≡ []
+pub text_stops : (words : List ℕ) (at n : ℕ) → 0 < n → byte_at words at ≡ 0 → text_at words at n ≡ []
 text_stops words at n h e = text_more words at (at + 1) n (n - 1) (omega arith) refl ∙ ap (λ b. cond (nat_eq b 0) [] (b ∷ text_at words (at + 1) (n - 1))) e
 
 text_goes : (words : List ℕ) (at next n m : ℕ) → n ≡ suc m → next ≡ at + 1 → nat_eq (byte_at words at) 0 ≡ false → text_at words at n ≡ byte_at words at ∷ text_at words next m

@@ -65,18 +65,19 @@ offset_field_in i = 48 + 16 * i
 abbrev pub offset_in : List ℕ → ℕ → ℕ
 offset_in words i = number64 words (offset_field_in i)
 
--- how many bytes so many entries of a type take: 1 instance domains, 2 instances, 3 metrics, 4 values, 5 strings
-unfoldable pub section_bytes : ℕ → ℕ → ℕ
-section_bytes type count =
+-- how many bytes so many entries of a type take in a version: 1 instance domains, 2 instances, 3 metrics, 4 values,
+-- 5 strings
+unfoldable pub section_bytes : ℕ → ℕ → ℕ → ℕ
+section_bytes version type count =
     if type == 1 then indom_size * count else
-    if type == 2 then instance_size * count else
-    if type == 3 then metric_size * count else
+    if type == 2 then instance_size version * count else
+    if type == 3 then metric_size version * count else
     if type == 4 then value_size * count else
     if type == 5 then string_size * count else 0
 
 -- the offset behind the section of contents entry i
 unfoldable pub end_in : List ℕ → ℕ → ℕ
-end_in words i = offset_in words i + section_bytes (type_in words i) (count_in words i)
+end_in words i = offset_in words i + section_bytes (version_in words) (type_in words i) (count_in words i)
 
 -- contents entry i lies in the words
 abbrev pub entry_lies : List ℕ → ℕ → Bool

@@ -1,4 +1,4 @@
--- Why words are no image of version 1 (mmv(5)): the first fault in the order of the kinds, and of one kind the one at the
+-- Why words are no image (mmv(5)): the first fault in the order of the kinds, and of one kind the one at the
 -- lowest offset. A section's entries lie one behind another, so the first faulty entry of a section has its lowest offset.
 use Rattle.std.specs.Prelude.{ℕ, zero, suc, Bool, not, ◌==◌, ◌&&◌, nat_le, if◌then◌else◌, IsTrue, List, length, Option, Some, None, Result, Ok, Err}
 use Rattle.mmv_layout.specs.declared.fault.ImageFault.{ImageFault}
@@ -7,7 +7,7 @@ use Rattle.mmv_layout.specs.Fields.{words_of}
 use Rattle.mmv_layout.specs.Sizes.{is_version}
 use Rattle.mmv_layout.specs.EntryFields.{serial_in_indom, first_offset_in_indom, short_offset_in_indom, long_offset_in_indom, number_offset_in_instance, number_in_instance, name_offset_in_instance, item_offset_in_metric, item_in_metric, type_offset_in_metric, type_in_metric, semantics_offset_in_metric, semantics_in_metric, serial_offset_in_metric, serial_in_metric, short_offset_in_metric, long_offset_in_metric, extra_offset_in_value, metric_offset_in_value, instance_offset_in_value}
 use Rattle.mmv_layout.specs.Contents.{bytes_in, has_magic, version_in, first_generation, second_generation, contents_in, cluster_in, is_short, type_in, entry_lies, has_good_section, is_aligned, sections_are_good, cluster_offset, offset_field_in}
-use Rattle.mmv_layout.specs.Entries.{indom_count, indom_at, instance_count, instance_at, metric_count, metric_at, value_count, value_at, string_count, string_at, has_text, has_name, is_good_string, is_kind, is_semantics, has_good_run, help_leads, lies_in_run, serial_leads, leads_to_metric, metric_of, choice_leads, instance_leads, is_new_indom, is_new_instance, is_new_metric, is_new_value, is_serial, is_instance_number, is_item}
+use Rattle.mmv_layout.specs.Entries.{indom_count, indom_at, instance_count, instance_at, metric_count, metric_at, value_count, value_at, string_count, string_at, has_text, has_name, is_good_string, is_kind, is_semantics, has_good_run, help_leads, name_leads, lies_in_run, serial_leads, leads_to_metric, metric_of, choice_leads, instance_leads, is_new_indom, is_new_instance, is_new_metric, is_new_value, is_serial, is_instance_number, is_item}
 use Rattle.mmv_layout.specs.Images.{is_too_large, is_cluster}
 
 -- what is found first, of two
@@ -64,7 +64,7 @@ name_fault words = lower (instance_name_fault words) (lower (metric_name_fault w
 -- Kind: a metric's type, or its semantics
 unfoldable pub code_fault : List ℕ → ℕ → Option ℕ
 code_fault words metric =
-    or_else (unless (is_kind (type_in_metric words metric)) (type_offset_in_metric metric)) (unless (is_semantics (semantics_in_metric words metric)) (semantics_offset_in_metric metric))
+    or_else (unless (is_kind (type_in_metric words metric)) (type_offset_in_metric words metric)) (unless (is_semantics (semantics_in_metric words metric)) (semantics_offset_in_metric words metric))
 
 unfoldable pub kind_fault : List ℕ → Option ℕ
 kind_fault words = first_below (metric_count words) (λ i. code_fault words (metric_at words i))
@@ -77,10 +77,17 @@ unfoldable pub indom_reference_fault : List ℕ → ℕ → Option ℕ
 indom_reference_fault words domain =
     or_else (unless (has_good_run words domain) (first_offset_in_indom domain)) (or_else (help_fault words (short_offset_in_indom domain)) (help_fault words (long_offset_in_indom domain)))
 
--- of a metric its serial, or a help
+-- of an instance its domain, or its name
+unfoldable pub name_reference_fault : List ℕ → ℕ → Option ℕ
+name_reference_fault words field = unless (name_leads words field) field
+
+unfoldable pub instance_reference_fault : List ℕ → ℕ → Option ℕ
+instance_reference_fault words instance = or_else (unless (lies_in_run words instance) instance) (name_reference_fault words (name_offset_in_instance instance))
+
+-- of a metric its name, its serial, or a help
 unfoldable pub metric_reference_fault : List ℕ → ℕ → Option ℕ
 metric_reference_fault words metric =
-    or_else (unless (serial_leads words (serial_in_metric words metric)) (serial_offset_in_metric metric)) (or_else (help_fault words (short_offset_in_metric metric)) (help_fault words (long_offset_in_metric metric)))
+    or_else (name_reference_fault words metric) (or_else (unless (serial_leads words (serial_in_metric words metric)) (serial_offset_in_metric words metric)) (or_else (help_fault words (short_offset_in_metric words metric)) (help_fault words (long_offset_in_metric words metric))))
 
 -- of a value its metric; and where that is one, its string, or its instance
 unfoldable pub value_reference_fault : List ℕ → ℕ → Option ℕ
@@ -92,7 +99,7 @@ unfoldable pub indoms_reference_fault : List ℕ → Option ℕ
 indoms_reference_fault words = first_below (indom_count words) (λ i. indom_reference_fault words (indom_at words i))
 
 unfoldable pub instances_reference_fault : List ℕ → Option ℕ
-instances_reference_fault words = first_below (instance_count words) (λ i. unless (lies_in_run words (instance_at words i)) (instance_at words i))
+instances_reference_fault words = first_below (instance_count words) (λ i. instance_reference_fault words (instance_at words i))
 
 unfoldable pub metrics_reference_fault : List ℕ → Option ℕ
 metrics_reference_fault words = first_below (metric_count words) (λ i. metric_reference_fault words (metric_at words i))
@@ -130,7 +137,7 @@ instances_serial_fault words =
     first_below (instance_count words) (λ i. unless (is_instance_number (number_in_instance words (instance_at words i))) (number_offset_in_instance (instance_at words i)))
 
 unfoldable pub metrics_serial_fault : List ℕ → Option ℕ
-metrics_serial_fault words = first_below (metric_count words) (λ i. unless (is_item (item_in_metric words (metric_at words i))) (item_offset_in_metric (metric_at words i)))
+metrics_serial_fault words = first_below (metric_count words) (λ i. unless (is_item (item_in_metric words (metric_at words i))) (item_offset_in_metric words (metric_at words i)))
 
 unfoldable pub cluster_fault : List ℕ → Option ℕ
 cluster_fault words = unless (is_cluster (cluster_in words)) cluster_offset

@@ -1,4 +1,4 @@
--- Images of version 1 (mmv(5)): words whose header, sections and entries are good.
+-- Images of versions 1 and 2 (mmv(5)): words whose header, sections and entries are good.
 use Rattle.std.specs.Prelude.{ℕ, Bool, not, ◌&&◌, ◌==◌, nat_le, IsTrue, List, length}
 use Rattle.mmv_layout.specs.Contents.{bytes_in, has_magic, version_in, first_generation, second_generation, cluster_in, is_short, sections_are_good, sections_are_aligned}
 use Rattle.mmv_layout.specs.Sizes.{is_version}
@@ -12,13 +12,13 @@ is_too_large words = not (nat_le (length words) 65536)
 abbrev pub is_cluster : ℕ → Bool
 is_cluster cluster = nat_le cluster 4095
 
--- the header of an image of version 1: no fault Short, TooLarge, Magic, Version, Generations, and no such cluster
+-- the header of an image: no fault Short, TooLarge, Magic, Version, Generations, and no such cluster
 unfoldable pub has_good_header : List ℕ → Bool
 has_good_header words =
     not (is_short (bytes_in words)) && not (is_too_large words) && has_magic words && is_version (version_in words)
     && first_generation words == second_generation words && is_cluster (cluster_in words)
 
--- an image of version 1: no fault is there
+-- an image: no fault is there
 unfoldable pub is_image : List ℕ → Bool
 is_image words =
     has_good_header words && sections_are_good words && sections_are_aligned words && indoms_are_good words

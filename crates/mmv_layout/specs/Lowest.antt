@@ -1,12 +1,14 @@
 -- What is told of words that are no image: of the kinds the first in their order, and of one kind the lowest offset at
 -- which something fails. Nothing is told exactly where nothing fails.
-use Rattle.std.specs.Prelude.{◌≡◌, ◌≢◌, ℕ, ◌+◌, ◌<◌, ◌≤◌, ◌⊎◌, Bool, true, false, List, length, Option, Some, None}
+use Rattle.std.specs.Prelude.{◌≡◌, ◌≢◌, ℕ, ◌+◌, ◌<◌, ◌≤◌, ◌⊎◌, Bool, true, false, List, [], length, Option, Some, None}
 use Rattle.mmv_layout.specs.declared.fault.ImageFault.{ImageFault}
 use Rattle.mmv_layout.specs.declared.fault.ImageFault.TheVariants as faults
-use Rattle.mmv_layout.specs.Sizes.{header_size, is_version}
+use Rattle.pcp_base.specs.Names.{spells}
+use Rattle.mmv_layout.specs.Fields.{number64, text_at, has_zero}
+use Rattle.mmv_layout.specs.Sizes.{header_size, is_version, string_size}
 use Rattle.mmv_layout.specs.EntryFields.{serial_in_indom, first_offset_in_indom, short_offset_in_indom, long_offset_in_indom, domain_in_instance, number_offset_in_instance, number_in_instance, name_offset_in_instance, item_offset_in_metric, item_in_metric, type_offset_in_metric, type_in_metric, semantics_offset_in_metric, semantics_in_metric, serial_offset_in_metric, serial_in_metric, short_offset_in_metric, long_offset_in_metric, extra_offset_in_value, metric_offset_in_value, instance_offset_in_value, instance_in_value}
 use Rattle.mmv_layout.specs.Contents.{bytes_in, has_magic, version_in, first_generation, second_generation, contents_in, cluster_offset, cluster_in, entry_at, type_in, offset_field_in, has_good_section, is_aligned}
-use Rattle.mmv_layout.specs.Entries.{indom_count, indom_at, instance_count, instance_at, metric_count, metric_at, value_count, value_at, string_count, string_at, has_text, has_name, is_good_string, is_kind, is_semantics, has_good_run, help_leads, lies_in_run, serial_leads, leads_to_metric, metric_of, choice_leads, is_new_indom, is_new_instance, is_new_metric, is_new_value}
+use Rattle.mmv_layout.specs.Entries.{indom_count, indom_at, instance_count, instance_at, metric_count, metric_at, value_count, value_at, string_count, string_at, is_good_string, is_kind, is_semantics, has_good_run, help_leads, name_leads, lies_in_run, serial_leads, leads_to_metric, metric_of, choice_leads, is_new_indom, is_new_instance, is_new_metric, is_new_value}
 use Rattle.mmv_layout.specs.Faults.{section_fault, offset_fault, name_fault, kind_fault, reference_fault, duplicate_fault, serial_fault, image_fault}
 
 -- an offset is told that is the lowest at which something fails, or none where nothing fails
@@ -25,16 +27,38 @@ InSome count fails at = (i : ℕ) × (i < count) × fails i at
 abbrev pub OffsetFails : List ℕ → ℕ → Type 0
 OffsetFails words at = InSome (contents_in words) (λ i. Fails (is_aligned words i) (offset_field_in i)) at
 
+-- a string stands at an offset and ends, and its text fails
+pub record IsBadString (fails : List ℕ → Type 0) (words : List ℕ) (offset : ℕ) : Type 0 where
+  pub string : ℕ
+  pub known : string < string_count words
+  pub stands : offset ≡ string_at words string
+  pub ends : is_good_string words string ≡ true
+  pub bad : fails (text_at words offset string_size)
+
+-- a name field has no name: in version 1 it has no zero byte, or what it holds fails; in version 2 it leads to a string
+-- that has one, and that fails
+abbrev pub LacksName : (List ℕ → Type 0) → List ℕ → ℕ → Type 0
+LacksName fails words field =
+    ((version_in words ≡ 1) × ((has_zero words field 64 ≡ false) ⊎ fails (text_at words field 64)))
+    ⊎ ((version_in words ≢ 1) × IsBadString fails words (number64 words field))
+
+-- an instance's name may not be empty, and a metric's keeps the rule for names
+abbrev pub IsEmpty : List ℕ → Type 0
+IsEmpty name = name ≡ []
+
+abbrev pub BreaksTheRule : List ℕ → Type 0
+BreaksTheRule name = spells true name ≡ false
+
 abbrev pub NameFails : List ℕ → ℕ → Type 0
 NameFails words at =
-    InSome (instance_count words) (λ i. Fails (has_text words (name_offset_in_instance (instance_at words i))) (name_offset_in_instance (instance_at words i))) at
-    ⊎ (InSome (metric_count words) (λ i. Fails (has_name words (metric_at words i)) (metric_at words i)) at
+    InSome (instance_count words) (λ i at. LacksName IsEmpty words (name_offset_in_instance (instance_at words i)) × (at ≡ name_offset_in_instance (instance_at words i))) at
+    ⊎ (InSome (metric_count words) (λ i at. LacksName BreaksTheRule words (metric_at words i) × (at ≡ metric_at words i)) at
     ⊎ InSome (string_count words) (λ i. Fails (is_good_string words i) (string_at words i)) at)
 
 abbrev pub CodeFails : List ℕ → ℕ → ℕ → Type 0
 CodeFails words metric at =
-    Fails (is_kind (type_in_metric words metric)) (type_offset_in_metric metric) at
-    ⊎ Fails (is_semantics (semantics_in_metric words metric)) (semantics_offset_in_metric metric) at
+    Fails (is_kind (type_in_metric words metric)) (type_offset_in_metric words metric) at
+    ⊎ Fails (is_semantics (semantics_in_metric words metric)) (semantics_offset_in_metric words metric) at
 
 abbrev pub KindFails : List ℕ → ℕ → Type 0
 KindFails words at = InSome (metric_count words) (λ i. CodeFails words (metric_at words i)) at
@@ -45,11 +69,17 @@ IndomReferenceFails words indom at =
     ⊎ (Fails (help_leads words (short_offset_in_indom indom)) (short_offset_in_indom indom) at
     ⊎ Fails (help_leads words (long_offset_in_indom indom)) (long_offset_in_indom indom) at)
 
+abbrev pub InstanceReferenceFails : List ℕ → ℕ → ℕ → Type 0
+InstanceReferenceFails words instance at =
+    Fails (lies_in_run words instance) instance at
+    ⊎ Fails (name_leads words (name_offset_in_instance instance)) (name_offset_in_instance instance) at
+
 abbrev pub MetricReferenceFails : List ℕ → ℕ → ℕ → Type 0
 MetricReferenceFails words metric at =
-    Fails (serial_leads words (serial_in_metric words metric)) (serial_offset_in_metric metric) at
-    ⊎ (Fails (help_leads words (short_offset_in_metric metric)) (short_offset_in_metric metric) at
-    ⊎ Fails (help_leads words (long_offset_in_metric metric)) (long_offset_in_metric metric) at)
+    Fails (name_leads words metric) metric at
+    ⊎ (Fails (serial_leads words (serial_in_metric words metric)) (serial_offset_in_metric words metric) at
+    ⊎ (Fails (help_leads words (short_offset_in_metric words metric)) (short_offset_in_metric words metric) at
+    ⊎ Fails (help_leads words (long_offset_in_metric words metric)) (long_offset_in_metric words metric) at))
 
 -- an instance stands at an offset, and leads to a domain that has a serial
 pub record IsInstanceOf (words : List ℕ) (serial offset : ℕ) : Type 0 where
@@ -79,7 +109,7 @@ ValueReferenceFails words value at =
 abbrev pub ReferenceFails : List ℕ → ℕ → Type 0
 ReferenceFails words at =
     (InSome (indom_count words) (λ i. IndomReferenceFails words (indom_at words i)) at
-    ⊎ InSome (instance_count words) (λ i. Fails (lies_in_run words (instance_at words i)) (instance_at words i)) at)
+    ⊎ InSome (instance_count words) (λ i. InstanceReferenceFails words (instance_at words i)) at)
     ⊎ (InSome (metric_count words) (λ i. MetricReferenceFails words (metric_at words i)) at
     ⊎ InSome (value_count words) (λ i. ValueReferenceFails words (value_at words i)) at)
 
@@ -96,7 +126,7 @@ SerialFails words at =
     ((4095 < cluster_in words) × (at ≡ cluster_offset))
     ⊎ (InSome (indom_count words) (λ i at. ((serial_in_indom words (indom_at words i) ≡ 0) ⊎ (1023 < serial_in_indom words (indom_at words i))) × (at ≡ indom_at words i)) at
     ⊎ (InSome (instance_count words) (λ i at. (2147483648 ≤ number_in_instance words (instance_at words i)) × (at ≡ number_offset_in_instance (instance_at words i))) at
-    ⊎ InSome (metric_count words) (λ i at. (1023 < item_in_metric words (metric_at words i)) × (at ≡ item_offset_in_metric (metric_at words i))) at))
+    ⊎ InSome (metric_count words) (λ i at. (1023 < item_in_metric words (metric_at words i)) × (at ≡ item_offset_in_metric words (metric_at words i))) at))
 
 -- the first contents entry that isn't good is told by its type, or by 0 where it doesn't lie in the words
 pub record IsFirstSection (words : List ℕ) (told : ℕ) : Type 0 where

@@ -1,4 +1,4 @@
--- What stands at the offsets of an image, row by row (mmv(5), version 1), as values. It is total: where a code has no
+-- What stands at the offsets of an image, row by row (mmv(5)), as values. It is total: where a code has no
 -- meaning, or a reference doesn't lead, it is something, but no image is so.
 use Rattle.std.specs.Prelude.{ℕ, zero, suc, ℤ, ◌+◌, ◌*◌, ◌==◌, nat_le, if◌then◌else◌, List, [], ◌∷◌, ◌++◌, Option, None, Some, unwrap_or}
 use Rattle.std.specs.Int.{w32, cast_signed}
@@ -6,10 +6,10 @@ use Rattle.pcp_base.specs.Codes.{kind_of_code, semantics_of_code}
 use Rattle.pcp_base.specs.declared.kind.Kind.TheVariants.{I32}
 use Rattle.pcp_base.specs.declared.kind.Semantics.TheVariants.{Counter}
 use Rattle.mmv_layout.specs.Fields.{number64, text_at}
-use Rattle.mmv_layout.specs.Sizes.{instance_size, string_size}
-use Rattle.mmv_layout.specs.EntryFields.{serial_in_indom, count_in_indom, first_in_indom, short_offset_in_indom, long_offset_in_indom, number_in_instance, name_in_instance, name_in_metric, item_in_metric, type_in_metric, semantics_in_metric, units_in_metric, serial_in_metric, short_offset_in_metric, long_offset_in_metric, extra_in_value, instance_in_value}
+use Rattle.mmv_layout.specs.Sizes.{string_size}
+use Rattle.mmv_layout.specs.EntryFields.{serial_in_indom, count_in_indom, short_offset_in_indom, long_offset_in_indom, number_in_instance, name_in_instance, name_in_metric, item_in_metric, type_in_metric, semantics_in_metric, units_in_metric, serial_in_metric, short_offset_in_metric, long_offset_in_metric, extra_in_value, instance_in_value}
 use Rattle.mmv_layout.specs.Contents.{version_in, first_generation, flags_in, cluster_in, process_in}
-use Rattle.mmv_layout.specs.Entries.{indom_count, indom_at, metric_count, metric_at, value_count, value_at, string_count, string_at, is_no_domain, metric_of}
+use Rattle.mmv_layout.specs.Entries.{indom_count, indom_at, metric_count, metric_at, value_count, value_at, string_count, string_at, run_at, is_no_domain, metric_of}
 use Rattle.mmv_layout.specs.declared.rows.IndomRow.{IndomRow}
 use Rattle.mmv_layout.specs.declared.rows.MetricRow.{MetricRow}
 use Rattle.mmv_layout.specs.declared.rows.ValueRow.{ValueRow}
@@ -40,7 +40,7 @@ instance_row words instance = (number_of words instance, name_in_instance words 
 
 -- the instances of the domain at an offset: as many as it counts, from its first instance on
 unfoldable pub instances_of : List ℕ → ℕ → List (ℤ × List ℕ)
-instances_of words domain = list_below (count_in_indom words domain) (λ k. instance_row words (first_in_indom words domain + instance_size * k))
+instances_of words domain = list_below (count_in_indom words domain) (λ k. instance_row words (run_at words domain k))
 
 unfoldable pub indom_row : List ℕ → ℕ → IndomRow
 indom_row words domain = record {
@@ -62,8 +62,8 @@ metric_row words metric = record {
   semantics = unwrap_or (semantics_of_code (semantics_in_metric words metric)) Counter;
   units = units_in_metric words metric;
   serial = serial_of (serial_in_metric words metric);
-  short = help_of words (short_offset_in_metric metric);
-  long = help_of words (long_offset_in_metric metric);
+  short = help_of words (short_offset_in_metric words metric);
+  long = help_of words (long_offset_in_metric words metric);
 }
 
 -- the item, the type and the serial of the metric of the value at an offset

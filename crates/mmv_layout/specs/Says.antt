@@ -1,11 +1,11 @@
--- What an image says (mmv(5), version 1), by addresses: which layout has each of its rows at an entry of its section, in
+-- What an image says (mmv(5)), by addresses: which layout has each of its rows at an entry of its section, in
 -- section order, with the fields of that entry.
 use Rattle.std.specs.Prelude.{◌≡◌, ◌≢◌, ℕ, ℤ, ◌+◌, ◌<◌, ◌≤◌, ◌⊎◌, List, [], ◌∷◌, length, Option, None, Some}
 use Rattle.pcp_base.specs.Codes.{code_of_kind, code_of_semantics}
 use Rattle.mmv_layout.specs.declared.contents.Section.{Section}
 use Rattle.mmv_layout.specs.Fields.{number64, text_at}
-use Rattle.mmv_layout.specs.Sizes.{indom_size, instance_size, metric_size, value_size, string_size}
-use Rattle.mmv_layout.specs.EntryFields.{serial_in_indom, count_in_indom, first_in_indom, short_offset_in_indom, long_offset_in_indom, name_in_instance, name_in_metric, item_in_metric, type_in_metric, semantics_in_metric, units_in_metric, serial_in_metric, short_offset_in_metric, long_offset_in_metric, extra_in_value, instance_in_value}
+use Rattle.mmv_layout.specs.Sizes.{name_width, indom_size, instance_size, metric_size, value_size, string_size}
+use Rattle.mmv_layout.specs.EntryFields.{serial_in_indom, count_in_indom, first_in_indom, short_offset_in_indom, long_offset_in_indom, name_offset_in_instance, item_in_metric, type_in_metric, semantics_in_metric, units_in_metric, serial_in_metric, short_offset_in_metric, long_offset_in_metric, extra_in_value, instance_in_value}
 use Rattle.mmv_layout.specs.Contents.{version_in, first_generation, second_generation, flags_in, process_in, cluster_in, section_of, process_in}
 use Rattle.mmv_layout.specs.Entries.{instance_count, instance_at, metric_count, metric_at, string_count, string_at, metric_of}
 use Rattle.mmv_layout.specs.Images.{IsImage}
@@ -39,15 +39,20 @@ abbrev pub HelpAt : List ℕ → ℕ → Option (List ℕ) → Type 0
 HelpAt words field None = number64 words field ≡ 0
 HelpAt words field (Some text) = (number64 words field ≢ 0) × StringAt words (number64 words field) text
 
+-- a name field holds a name in version 1, and else leads to a string with this text
+abbrev pub NameAt : List ℕ → ℕ → List ℕ → Type 0
+NameAt words field name =
+    ((version_in words ≡ 1) × (name ≡ text_at words field (name_width 1))) ⊎ ((version_in words ≢ 1) × StringAt words (number64 words field) name)
+
 -- an instance's number and its name
 abbrev pub InstanceAt : List ℕ → ℕ → ℤ × List ℕ → Type 0
-InstanceAt words instance row = (row.0 ≡ number_of words instance) × (row.1 ≡ name_in_instance words instance)
+InstanceAt words instance row = (row.0 ≡ number_of words instance) × NameAt words (name_offset_in_instance instance) row.1
 
 -- a domain has as many instances as it counts, the first where its field says, and the others behind it
 pub record IndomAt (words : List ℕ) (domain : ℕ) (row : IndomRow) : Type 0 where
   pub serial : row.serial ≡ serial_in_indom words domain
   pub count : length row.instances ≡ count_in_indom words domain
-  pub instances : EachAt (InstanceAt words) (first_in_indom words domain) instance_size row.instances
+  pub instances : EachAt (InstanceAt words) (first_in_indom words domain) (instance_size (version_in words)) row.instances
   pub short : HelpAt words (short_offset_in_indom domain) row.short
   pub long : HelpAt words (long_offset_in_indom domain) row.long
 
@@ -63,14 +68,14 @@ SerialIs found None = IsNull found
 SerialIs found (Some serial) = IsNamed found × (serial ≡ found)
 
 pub record MetricAt (words : List ℕ) (metric : ℕ) (row : MetricRow) : Type 0 where
-  pub name : row.name ≡ name_in_metric words metric
+  pub name : NameAt words metric row.name
   pub item : row.item ≡ item_in_metric words metric
   pub kind : code_of_kind row.kind ≡ type_in_metric words metric
   pub semantics : code_of_semantics row.semantics ≡ semantics_in_metric words metric
   pub units : row.units ≡ units_in_metric words metric
   pub serial : SerialIs (serial_in_metric words metric) row.serial
-  pub short : HelpAt words (short_offset_in_metric metric) row.short
-  pub long : HelpAt words (long_offset_in_metric metric) row.long
+  pub short : HelpAt words (short_offset_in_metric words metric) row.short
+  pub long : HelpAt words (long_offset_in_metric words metric) row.long
 
 -- a value's instance: none where its metric has no domain, else the number of the instance to which its field leads
 abbrev pub InstanceOf : List ℕ → ℕ → Option ℤ → Type 0
@@ -107,7 +112,7 @@ pub record Says (words : List ℕ) (layout : Layout) : Type 0 where
   pub pid : layout.pid ≡ process_in words
   pub cluster : layout.cluster ≡ cluster_in words
   pub indoms : InSection (IndomAt words) (section_of words 1) indom_size layout.indoms
-  pub metrics : InSection (MetricAt words) (section_of words 3) metric_size layout.metrics
+  pub metrics : InSection (MetricAt words) (section_of words 3) (metric_size (version_in words)) layout.metrics
   pub values : InSection (ValueAt words) (section_of words 4) value_size layout.values
   pub strings : InSection (TextAt words) (section_of words 5) string_size layout.strings
 

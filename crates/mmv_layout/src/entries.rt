@@ -1,13 +1,12 @@
 //! The offsets of an image's entries, and which offsets are those of entries.
-ghost use Rattle.std.specs.Prelude.{◌≡◌, ◌+◌, ◌*◌, ◌<◌, ◌^◌};
-ghost use Rattle.mmv_layout.specs.Sizes.{instance_size};
-ghost use Rattle.mmv_layout.specs.EntryFields.{first_in_indom};
-ghost use Rattle.mmv_layout.specs.Entries.{leads, leads_to_indom, leads_to_instance, leads_to_metric, leads_to_string, indom_count, instance_count, metric_count, value_count, string_count, indom_at, instance_at, metric_at, value_at, string_at, help_leads, is_no_domain, metric_of};
+ghost use Rattle.std.specs.Prelude.{◌≡◌, ◌<◌, ◌^◌};
+ghost use Rattle.mmv_layout.specs.Entries.{leads, leads_to_indom, leads_to_instance, leads_to_metric, leads_to_string, indom_count, instance_count, metric_count, value_count, string_count, indom_at, instance_at, metric_at, value_at, string_at, run_at, help_leads, is_no_domain, metric_of};
 
 use crate::contents::{INDOMS, INSTANCES, METRICS, STRINGS, VALUES, section_of};
 use crate::entry_fields::{first_in_indom, metric_in_value};
 use crate::fields::number64;
-use crate::sizes::{INDOM_SIZE, INSTANCE_SIZE, METRIC_SIZE, STRING_SIZE, VALUE_SIZE};
+use crate::header::version_in;
+use crate::sizes::{INDOM_SIZE, STRING_SIZE, VALUE_SIZE, instance_size, metric_size};
 
 /// Whether an offset is that of one of `count` entries of a size, the first of them at `first`.
 pub fn leads(first: u64, count: u32, size: u64, offset: u128) -> bool
@@ -38,7 +37,12 @@ pub fn leads_to_instance(words: &[u64], offset: u128) -> bool
     ensures { result ≡ leads_to_instance words.now offset }
 {
     let section = section_of(words, INSTANCES);
-    leads(section.offset, section.count, INSTANCE_SIZE, offset)
+    leads(
+        section.offset,
+        section.count,
+        instance_size(version_in(words)),
+        offset,
+    )
 }
 
 /// Whether a metric stands at an offset.
@@ -46,7 +50,12 @@ pub fn leads_to_metric(words: &[u64], offset: u128) -> bool
     ensures { result ≡ leads_to_metric words.now offset }
 {
     let section = section_of(words, METRICS);
-    leads(section.offset, section.count, METRIC_SIZE, offset)
+    leads(
+        section.offset,
+        section.count,
+        metric_size(version_in(words)),
+        offset,
+    )
 }
 
 /// Whether a string stands at an offset.
@@ -70,16 +79,17 @@ pub fn instance_at(words: &[u64], i: u32) -> u128
     ensures offset { result ≡ instance_at words.now i }
     ensures bound { result < 2 ^ 80 }
 {
-    section_of(words, INSTANCES).offset as u128 + INSTANCE_SIZE as u128 * i as u128
+    section_of(words, INSTANCES).offset as u128
+        + instance_size(version_in(words)) as u128 * i as u128
 }
 
 /// The offset of an instance of the run of the domain at an offset.
 pub fn run_at(words: &[u64], domain: u128, k: u32) -> u128
     requires { domain < 2 ^ 80 }
-    ensures offset { result ≡ first_in_indom words.now domain + instance_size * k }
+    ensures offset { result ≡ run_at words.now domain k }
     ensures bound { result < 2 ^ 80 }
 {
-    first_in_indom(words, domain) as u128 + INSTANCE_SIZE as u128 * k as u128
+    first_in_indom(words, domain) as u128 + instance_size(version_in(words)) as u128 * k as u128
 }
 
 /// The offset of a metric.
@@ -87,7 +97,7 @@ pub fn metric_at(words: &[u64], i: u32) -> u128
     ensures offset { result ≡ metric_at words.now i }
     ensures bound { result < 2 ^ 80 }
 {
-    section_of(words, METRICS).offset as u128 + METRIC_SIZE as u128 * i as u128
+    section_of(words, METRICS).offset as u128 + metric_size(version_in(words)) as u128 * i as u128
 }
 
 /// The offset of a value.

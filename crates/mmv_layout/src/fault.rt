@@ -5,7 +5,7 @@ ghost use Rattle.mmv_layout.specs.declared.fault.ImageFault.TheVariants.{NoMemor
 use std::alloc::AllocError;
 use thiserror::Error;
 
-/// Why words or bytes are no image of version 1 (mmv(5)): the first fault in this order, and of one kind the one at
+/// Why words or bytes are no image (mmv(5)): the first fault in this order, and of one kind the one at
 /// the lowest offset. `at` is an offset in bytes: of the field, and for `Duplicate` of the entry.
 #[derive(Clone, Copy, Debug, PartialEq, Eq, Error)]
 pub enum ImageFault {
@@ -18,7 +18,7 @@ pub enum ImageFault {
     /// The first four bytes aren't `MMV` and a zero byte.
     #[error("the magic number is missing")]
     Magic,
-    /// A version other than 1.
+    /// A version other than 1 and 2.
     #[error("version {found} isn't read")]
     Version { found: u32 },
     /// The two generation numbers differ: the image is being changed.
@@ -32,13 +32,14 @@ pub enum ImageFault {
     /// A section begins at no multiple of 8; `at` is that of the offset in its contents entry.
     #[error("the section place at {at} is no multiple of 8")]
     Offset { at: u64 },
-    /// A name or a string has no zero byte, a name is empty, or a metric's name breaks the rule for names.
+    /// A name or a string has no zero byte, a name is empty, or a metric's name breaks the rule for names; `at` is that
+    /// of the name field or of the string.
     #[error("the name at {at} is none")]
     Name { at: u64 },
     /// A metric's type or semantics has no meaning.
     #[error("the code at {at} has no meaning")]
     Kind { at: u64 },
-    /// A help, an instance, a run of instances, a serial, a metric or a string that isn't there.
+    /// A help, a name, an instance, a run of instances, a serial, a metric or a string that isn't there.
     #[error("the reference at {at} leads nowhere")]
     Reference { at: u64 },
     /// The later of two domains with one serial, of two instances of one domain with one number or one name, of two

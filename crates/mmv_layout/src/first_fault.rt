@@ -33,7 +33,7 @@ fn lower(a: Option<u64>, b: Option<u64>) -> Option<u64>
     }
 }
 
-/// The lowest offset of a name field that holds no name, or of a string without a zero byte.
+/// The lowest offset of a name field that has no name, or of a string without a zero byte.
 #[tactic(auto, unfolding(crate::specs::Faults::name_fault))]
 fn name_fault(alloc: Global, words: &[u64]) -> Result<Option<u64>, AllocError>
     requires { HasSections words.now }

@@ -29,7 +29,7 @@ fn is_short(bytes: usize) -> bool
     (bytes as u64) < HEADER_SIZE || bytes % 8 != 0
 }
 
-/// An image of version 1 (mmv(5)). Contracts see it as the list of its words.
+/// An image of version 1 or 2 (mmv(5)). Contracts see it as the list of its words.
 #[derive(Drop)]
 pub struct Image {
     words: Vec<u64>,

@@ -1,27 +1,20 @@
 //! What of the instances and the strings of an image is at fault.
-ghost use Rattle.std.specs.Prelude.{◌≡◌, ◌<◌, ◌^◌, IfOk};
-ghost use Rattle.mmv_layout.specs.Entries.{has_text, lies_in_run, instance_count, is_good_string, string_count};
-ghost use Rattle.mmv_layout.specs.Faults.{HasSections, instance_name_fault, instances_reference_fault, instances_duplicate_fault, instances_serial_fault, string_fault};
+ghost use Rattle.std.specs.Prelude.{◌≡◌, ◌<◌, IfOk};
+ghost use Rattle.mmv_layout.specs.Entries.{lies_in_run, instance_count, is_good_string, string_count};
+ghost use Rattle.mmv_layout.specs.Faults.{HasSections, instance_name_fault, name_reference_fault, instance_reference_fault, instances_reference_fault, instances_duplicate_fault, instances_serial_fault, string_fault};
 
 use crate::entries::{instance_at, instance_count, leads, leads_to_indom, string_at, string_count};
 use crate::entry_fields::{
     NAME_OFFSET, NUMBER_OFFSET, count_in_indom, domain_in_instance, first_in_indom,
     number_in_instance,
 };
-use crate::fields::{byte_at, has_zero};
+use crate::fields::has_zero;
+use crate::header::version_in;
 use crate::keys::{Key, first_again};
+use crate::names::{has_text, name_leads};
 use crate::offsets::{instance_offset, string_offset};
-use crate::sizes::{INSTANCE_SIZE, NAME_WIDTH, STRING_SIZE};
+use crate::sizes::{STRING_SIZE, instance_size};
 use std::alloc::{AllocError, Global};
-
-/// Whether the name field at an offset holds a text that isn't empty.
-#[tactic(auto, unfolding(crate::specs::Entries::has_text))]
-fn has_text(words: &[u64], field: u128) -> bool
-    requires { field < 2 ^ 100 }
-    ensures { result ≡ has_text words.now field }
-{
-    has_zero(words, field, NAME_WIDTH) && byte_at(words, field) != 0
-}
 
 /// Whether the instance at an offset leads to a domain, in whose run it lies.
 #[tactic(auto, unfolding(crate::specs::Entries::lies_in_run))]
@@ -33,12 +26,12 @@ fn lies_in_run(words: &[u64], instance: u128) -> bool
         && leads(
             first_in_indom(words, domain),
             count_in_indom(words, domain),
-            INSTANCE_SIZE,
+            instance_size(version_in(words)),
             instance,
         )
 }
 
-/// The offset of the first instance's name field that holds no name: it has no zero byte, or is empty.
+/// The offset of the first instance's name field that has no name: it has no zero byte, or is empty.
 #[tactic(auto, using(crate::proofs::Firsts::first_none, crate::proofs::Firsts::first_goes), unfolding(crate::specs::Faults::instance_name_fault, crate::specs::Faults::unless))]
 pub fn instance_name_fault(words: &[u64]) -> Option<u64>
     requires { HasSections words.now }
@@ -53,16 +46,39 @@ pub fn instance_name_fault(words: &[u64]) -> Option<u64>
     None
 }
 
-/// The offset of the first instance outside its domain's run.
+/// The offset of a name field that leads to no string.
+#[tactic(auto, unfolding(crate::specs::Faults::name_reference_fault, crate::specs::Faults::unless))]
+pub fn name_reference_fault(words: &[u64], field: u64) -> Option<u64>
+    ensures { result ≡ name_reference_fault words.now field }
+{
+    if name_leads(words, field as u128) {
+        None
+    } else {
+        Some(field)
+    }
+}
+
+/// The offset of the first reference of the instance at an offset that leads nowhere: its domain, its name.
+#[tactic(auto, unfolding(crate::specs::Faults::instance_reference_fault, crate::specs::Faults::unless, crate::specs::Faults::or_else))]
+fn instance_reference_fault(words: &[u64], instance: u64) -> Option<u64>
+    requires { instance < 524288 }
+    ensures { result ≡ instance_reference_fault words.now instance }
+{
+    if !lies_in_run(words, instance as u128) {
+        return Some(instance);
+    }
+    name_reference_fault(words, instance + NAME_OFFSET)
+}
+
+/// The offset of the first reference of an instance that leads nowhere.
 #[tactic(auto, using(crate::proofs::Firsts::first_none, crate::proofs::Firsts::first_goes), unfolding(crate::specs::Faults::instances_reference_fault, crate::specs::Faults::unless))]
 pub fn instances_reference_fault(words: &[u64]) -> Option<u64>
     requires { HasSections words.now }
     ensures { result ≡ instances_reference_fault words.now }
 {
     for i in 0..instance_count(words) {
-        let instance = instance_offset(words, i);
-        if !lies_in_run(words, instance as u128) {
-            return Some(instance);
+        if let Some(at) = instance_reference_fault(words, instance_offset(words, i)) {
+            return Some(at);
         }
     }
     None

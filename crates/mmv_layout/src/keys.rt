@@ -1,7 +1,7 @@
 //! What tells the entries of a section apart, and the first that has the key of an earlier one.
 ghost use Rattle.std.specs.Prelude.{◌≡◌, ◌-◌, ◌<◌, ◌≤◌, ◌^◌, ◌++◌, length, take, drop, IfOk, OnOk};
-ghost use Rattle.mmv_layout.specs.Sizes.{name_width};
 ghost use Rattle.mmv_layout.specs.Fields.{text_at};
+ghost use Rattle.mmv_layout.specs.EntryFields.{name_text};
 ghost use Rattle.mmv_layout.specs.Keys.{key_at, keys_before, ends_before, is_new_key, IsFirst};
 
 use crate::entries::{indom_at, instance_at, metric_at, value_at};
@@ -10,7 +10,9 @@ use crate::entry_fields::{
     number_in_instance, serial_in_indom,
 };
 use crate::fields::byte_at;
-use crate::sizes::NAME_WIDTH;
+use crate::header::version_in;
+use crate::names::name_start;
+use crate::sizes::name_room;
 use std::alloc::{AllocError, Global};
 use std::collections::BTreeSet;
 
@@ -33,12 +35,12 @@ struct Keys {
     ends: Vec<usize>,
 }
 
-/// Writes the bytes of the name field at an offset.
-fn push_name(keys: &mut Vec<u64>, words: &[u64], at: u128) -> Result<(), AllocError>
+/// Writes the bytes at an offset before the first zero byte, `n` at most.
+fn push_text(keys: &mut Vec<u64>, words: &[u64], at: u128, n: u32) -> Result<(), AllocError>
     requires { at < 2 ^ 100 }
-    ensures { OnOk result (keys.new.items ≡ keys.old.items ++ text_at words.now at name_width) }
+    ensures { OnOk result (keys.new.items ≡ keys.old.items ++ text_at words.now at n) }
 {
-    for k in 0..NAME_WIDTH {
+    for k in 0..n {
         let byte = byte_at(words, at + k as u128);
         if byte == 0 {
             return Ok(());
@@ -46,6 +48,16 @@ fn push_name(keys: &mut Vec<u64>, words: &[u64], at: u128) -> Result<(), AllocEr
         keys.push(byte as u64)?;
     }
     Ok(())
+}
+
+/// Writes the name of the name field at an offset.
+#[tactic(auto, unfolding(crate::specs::EntryFields::name_text))]
+fn push_name(keys: &mut Vec<u64>, words: &[u64], field: u128) -> Result<(), AllocError>
+    requires { field < 2 ^ 90 }
+    ensures { OnOk result (keys.new.items ≡ keys.old.items ++ name_text words.now field) }
+{
+    let room = name_room(version_in(words));
+    push_text(keys, words, name_start(words, field), room)
 }
 
 /// Writes the key of an entry.

@@ -116,8 +116,8 @@ fn metric_row(alloc: Global, words: &[u64], metric: u128) -> Result<MetricRow, N
         ),
         units: Units::of_word(units_in_metric(words, metric)),
         serial: serial_of(serial_in_metric(words, metric)),
-        short: help_of(alloc, words, short_offset_in_metric(metric))?,
-        long: help_of(alloc, words, long_offset_in_metric(metric))?,
+        short: help_of(alloc, words, short_offset_in_metric(words, metric))?,
+        long: help_of(alloc, words, long_offset_in_metric(words, metric))?,
     })
 }
 

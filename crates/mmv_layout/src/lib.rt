@@ -1,4 +1,4 @@
-//! Images of memory mapped values, version 1 (mmv(5)). The grammar: header, contents, entries and their fields, each with one
+//! Images of memory mapped values, versions 1 and 2 (mmv(5)). The grammar: header, contents, entries and their fields, each with one
 //! definition and one reader. What is wrong with words that are no image: the first fault and its offset, by a walk for each
 //! kind of fault. What an image says, by the addresses of its fields; the laws say what changes of an image keep its form.
 #![tactic(auto)]
@@ -19,6 +19,7 @@ mod keys;
 mod laws;
 mod layout;
 mod metrics;
+mod names;
 mod offsets;
 mod rows;
 mod sections;
@@ -42,7 +43,7 @@ pub use laws::{
 };
 pub use rows::{Content, IndomRow, Layout, MetricRow, Slot, ValueRow};
 pub use sizes::{
-    ENTRY_SIZE, HEADER_SIZE, INDOM_SIZE, INSTANCE_SIZE, METRIC_SIZE, NAME_WIDTH, STRING_SIZE,
-    VALUE_SIZE, is_version,
+    ENTRY_SIZE, HEADER_SIZE, INDOM_SIZE, STRING_SIZE, VALUE_SIZE, has_inline_names, instance_size,
+    is_version, metric_size, name_room, name_width,
 };
 pub use slot_table::SlotTable;

@@ -1,36 +1,23 @@
 //! What of the metrics of an image is at fault.
-ghost use Rattle.std.specs.Prelude.{◌≡◌, ◌<◌, ◌^◌, IfOk};
-ghost use Rattle.mmv_layout.specs.Entries.{has_name, is_no_domain, serial_leads, metric_count};
+ghost use Rattle.std.specs.Prelude.{◌≡◌, ◌<◌, IfOk};
+ghost use Rattle.mmv_layout.specs.Entries.{is_no_domain, serial_leads, metric_count};
 ghost use Rattle.mmv_layout.specs.Keys.{HasSerials};
 ghost use Rattle.mmv_layout.specs.Faults.{HasSections, metric_name_fault, code_fault, kind_fault, metric_reference_fault, metrics_reference_fault, metrics_duplicate_fault, metrics_serial_fault};
 
 use crate::entries::{is_no_domain, metric_count};
 use crate::entry_fields::{
-    ITEM_OFFSET, SEMANTICS_OFFSET, SERIAL_OFFSET, TYPE_OFFSET, item_in_metric,
-    long_offset_in_metric, semantics_in_metric, serial_in_metric, short_offset_in_metric,
-    type_in_metric,
+    item_in_metric, item_offset_in_metric, long_offset_in_metric, semantics_in_metric,
+    semantics_offset_in_metric, serial_in_metric, serial_offset_in_metric, short_offset_in_metric,
+    type_in_metric, type_offset_in_metric,
 };
-use crate::fields::{has_zero, text_at};
 use crate::indoms::{help_fault, indom_serials};
+use crate::instances::name_reference_fault;
 use crate::keys::{Key, first_again};
+use crate::names::has_name;
 use crate::offsets::metric_offset;
-use crate::sizes::NAME_WIDTH;
-use pcp_base::{Kind, Semantics, is_name};
+use pcp_base::{Kind, Semantics};
 use std::alloc::{AllocError, Global};
 use std::collections::BTreeSet;
-
-/// Whether the name field at an offset holds a name.
-#[tactic(auto, unfolding(crate::specs::Entries::has_name))]
-fn has_name(alloc: Global, words: &[u64], field: u128) -> Result<bool, AllocError>
-    requires { field < 2 ^ 80 }
-    ensures { IfOk result (λ named. named ≡ has_name words.now field) }
-{
-    if !has_zero(words, field, NAME_WIDTH) {
-        return Ok(false);
-    }
-    let name = text_at(alloc, words, field, NAME_WIDTH)?;
-    Ok(is_name(name.as_slice()))
-}
 
 /// Whether a metric's serial is none or that of a domain.
 #[tactic(auto, unfolding(crate::specs::Entries::serial_leads))]
@@ -41,7 +28,7 @@ fn serial_leads(words: &[u64], serials: &BTreeSet<u32>, serial: u32) -> bool
     is_no_domain(serial) || serials.contains(&serial)
 }
 
-/// The offset of the first metric's name field that holds no name: it has no zero byte, or breaks the rule for names.
+/// The offset of the first metric's name field that has no name: it has no zero byte, or breaks the rule for names.
 #[tactic(auto, using(crate::proofs::Firsts::first_none, crate::proofs::Firsts::first_goes), unfolding(crate::specs::Faults::metric_name_fault, crate::specs::Faults::unless))]
 pub fn metric_name_fault(alloc: Global, words: &[u64]) -> Result<Option<u64>, AllocError>
     requires { HasSections words.now }
@@ -64,10 +51,10 @@ fn code_fault(words: &[u64], metric: u64) -> Option<u64>
     ensures { result ≡ code_fault words.now metric }
 {
     if Kind::of_code(type_in_metric(words, metric as u128)).is_none() {
-        return Some(metric + TYPE_OFFSET);
+        return Some(type_offset_in_metric(words, metric as u128) as u64);
     }
     if Semantics::of_code(semantics_in_metric(words, metric as u128)).is_none() {
-        return Some(metric + SEMANTICS_OFFSET);
+        return Some(semantics_offset_in_metric(words, metric as u128) as u64);
     }
     None
 }
@@ -86,20 +73,23 @@ pub fn kind_fault(words: &[u64]) -> Option<u64>
     None
 }
 
-/// The offset of the first reference of the metric at an offset that leads nowhere: its serial, its helps.
+/// The offset of the first reference of the metric at an offset that leads nowhere: its name, its serial, its helps.
 #[tactic(auto, unfolding(crate::specs::Faults::metric_reference_fault, crate::specs::Faults::unless, crate::specs::Faults::or_else))]
 fn metric_reference_fault(words: &[u64], serials: &BTreeSet<u32>, metric: u64) -> Option<u64>
     requires serials { HasSerials words.now serials.now }
     requires bound { metric < 524288 }
     ensures { result ≡ metric_reference_fault words.now metric }
 {
-    if !serial_leads(words, serials, serial_in_metric(words, metric as u128)) {
-        return Some(metric + SERIAL_OFFSET);
-    }
-    if let Some(at) = help_fault(words, short_offset_in_metric(metric as u128) as u64) {
+    if let Some(at) = name_reference_fault(words, metric) {
         return Some(at);
     }
-    help_fault(words, long_offset_in_metric(metric as u128) as u64)
+    if !serial_leads(words, serials, serial_in_metric(words, metric as u128)) {
+        return Some(serial_offset_in_metric(words, metric as u128) as u64);
+    }
+    if let Some(at) = help_fault(words, short_offset_in_metric(words, metric as u128) as u64) {
+        return Some(at);
+    }
+    help_fault(words, long_offset_in_metric(words, metric as u128) as u64)
 }
 
 /// The offset of the first reference of a metric that leads nowhere, as the domains have these serials.
@@ -149,7 +139,7 @@ pub fn metrics_serial_fault(words: &[u64]) -> Option<u64>
     for i in 0..metric_count(words) {
         let metric = metric_offset(words, i);
         if 1023 < item_in_metric(words, metric as u128) {
-            return Some(metric + ITEM_OFFSET);
+            return Some(item_offset_in_metric(words, metric as u128) as u64);
         }
     }
     None

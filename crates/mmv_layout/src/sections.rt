@@ -6,21 +6,21 @@ ghost use Rattle.mmv_layout.specs.Faults.{bad_type, section_fault, offset_fault}
 use crate::contents::{
     INDOMS, INSTANCES, METRICS, STRINGS, VALUES, bytes_in, count_in, entry_at, offset_in, type_in,
 };
-use crate::header::contents_in;
+use crate::header::{contents_in, version_in};
 use crate::sizes::{
-    ENTRY_SIZE, HEADER_SIZE, INDOM_SIZE, INSTANCE_SIZE, METRIC_SIZE, STRING_SIZE, VALUE_SIZE,
+    ENTRY_SIZE, HEADER_SIZE, INDOM_SIZE, STRING_SIZE, VALUE_SIZE, instance_size, metric_size,
 };
 
-/// How many bytes `count` entries of a type take.
+/// How many bytes `count` entries of a type take in a version.
 #[tactic(auto, unfolding(crate::specs::Contents::section_bytes))]
-fn section_bytes(kind: u32, count: u32) -> u64
-    ensures { result ≡ section_bytes kind count }
+fn section_bytes(version: u32, kind: u32, count: u32) -> u64
+    ensures { result ≡ section_bytes version kind count }
 {
     let count = count as u64;
     match kind {
         INDOMS => INDOM_SIZE * count,
-        INSTANCES => INSTANCE_SIZE * count,
-        METRICS => METRIC_SIZE * count,
+        INSTANCES => instance_size(version) * count,
+        METRICS => metric_size(version) * count,
         VALUES => VALUE_SIZE * count,
         STRINGS => STRING_SIZE * count,
         _ => 0,
@@ -32,7 +32,8 @@ fn section_bytes(kind: u32, count: u32) -> u64
 fn end_in(words: &[u64], i: u32) -> u128
     ensures { result ≡ end_in words.now i }
 {
-    offset_in(words, i) as u128 + section_bytes(type_in(words, i), count_in(words, i)) as u128
+    let bytes = section_bytes(version_in(words), type_in(words, i), count_in(words, i));
+    offset_in(words, i) as u128 + bytes as u128
 }
 
 /// Whether an entry's section, if it has one, lies in the words behind the contents.

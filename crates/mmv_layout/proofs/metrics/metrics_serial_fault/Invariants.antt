@@ -7,4 +7,4 @@ use Rattle.mmv_layout.specs.Faults.{unless, first_below}
 use Rattle.mmv_layout.proofs.metrics.metrics_serial_fault.Given as goal
 
 abbrev pub invariant-loop-i : goal.invariant-loop-i
-invariant-loop-i l = first_below l.i (λ i. unless (is_item (item_in_metric l.words (metric_at l.words i))) (item_offset_in_metric (metric_at l.words i))) ≡ None
+invariant-loop-i l = first_below l.i (λ i. unless (is_item (item_in_metric l.words (metric_at l.words i))) (item_offset_in_metric l.words (metric_at l.words i))) ≡ None
