@@ -1,5 +1,5 @@
 //! Records of at most 16 MiB that would take terabytes if each offset had its own copy: all pairs of a result lead to one
-//! block, all instances of a domain to one name. Readers answer want of memory, and the program's own memory stays small.
+//! block, all instances of a domain to one name. Both are read, and the program's own memory stays a few times theirs.
 #![tactic(auto)]
 
 use anyhow::Result;
@@ -86,7 +86,7 @@ fn main(rt: HostRuntime) -> Result<()> {
     let told = tell_domain(alloc).unwrap_or("none");
     println!(rt; "instances that lead to one name: {told}")?;
     let peak = peak(&rt)?;
-    let kept = peak < 307_200;
-    println!(rt; "at most 300 MiB: {kept}")?;
+    let kept = peak <= 81_920;
+    println!(rt; "at most 80 MiB: {kept}")?;
     Ok(())
 }
