@@ -5,14 +5,14 @@ use Rattle.mmv_layout.specs.declared.contents.Section.{Section}
 use Rattle.mmv_layout.specs.Below.{all_below, some_below}
 use Rattle.mmv_layout.specs.Fields.{number32, number64, byte_at, text_at, has_zero}
 use Rattle.mmv_layout.specs.Sizes.{has_inline_names, name_width, name_room, header_size, indom_size, instance_size, metric_size, value_size, string_size}
-use Rattle.mmv_layout.specs.EntryFields.{name_start, name_text, same_name, count_offset_in_indom, count_in_indom, first_offset_in_indom, first_in_indom, short_offset_in_indom, long_offset_in_indom, domain_in_instance, number_offset_in_instance, name_offset_in_instance, item_offset_in_metric, type_offset_in_metric, type_in_metric, semantics_offset_in_metric, serial_offset_in_metric, serial_in_metric, short_offset_in_metric, long_offset_in_metric, extra_in_value, metric_offset_in_value, instance_offset_in_value, instance_in_value}
-use Rattle.mmv_layout.specs.Contents.{version_in, contents_in, type_in, count_in, offset_in, section_bytes, end_in, section_lies, are_apart, is_first_of_type, has_good_section, find_section, section_of, entry_at, entry_end, count_offset_in, offset_field_in}
+use Rattle.mmv_layout.specs.EntryFields.{name_start, name_text, same_name, count_offset_in_indom, count_in_indom, first_offset_in_indom, short_offset_in_indom, long_offset_in_indom, domain_in_instance, number_offset_in_instance, name_offset_in_instance, item_offset_in_metric, type_offset_in_metric, type_in_metric, semantics_offset_in_metric, serial_offset_in_metric, serial_in_metric, short_offset_in_metric, long_offset_in_metric, extra_in_value, metric_offset_in_value, instance_offset_in_value, instance_in_value}
+use Rattle.mmv_layout.specs.Contents.{version_in, contents_in, type_in, count_in, offset_in, end_in, section_lies, are_apart, is_first_of_type, has_good_section, find_section, section_of, entry_at, entry_end, count_offset_in, offset_field_in}
 use Rattle.mmv_layout.specs.Entries.{leads_to_string, indom_count, indom_at, instance_count, instance_at, metric_count, metric_at, value_count, value_at, string_count, string_at, help_leads, name_leads, name_ends, is_passed_over, run_at, is_instance_of, has_good_run, has_serial, is_new_indom, is_good_indom, has_text, lies_in_run, is_same_instance, is_new_instance, is_good_instance, has_name, is_no_domain, is_indom_serial, serial_leads, is_same_metric, is_new_metric, has_good_fields, is_good_metric, metric_of, instance_leads, choice_leads, is_same_value, is_new_value, is_good_value, is_good_string}
 use Rattle.mmv_layout.specs.Images.{is_image}
-use Rattle.mmv_layout.proofs.Below.{all_at, both_left, both_right}
+use Rattle.mmv_layout.proofs.Below.{both_left, both_right}
 use Rattle.mmv_layout.specs.Rows.{item_of, type_of, domain_of}
 use Rattle.mmv_layout.specs.Says.{LeadsTo}
-use Rattle.mmv_layout.proofs.Goods.{eq_of, either, leads_there, good_indom, good_instance, good_value}
+use Rattle.mmv_layout.proofs.Goods.{eq_of, either, leads_there, good_instance, good_value}
 use Rattle.mmv_layout.proofs.Looked.{Looked, looked_header, looked_contents, looked_indom, looked_instance, looked_metric, looked_string, looked_value}
 use Rattle.mmv_layout.proofs.Named.{outline_leads, instance_named, metric_named}
 use Rattle.mmv_layout.proofs.Runs.{run_leads}

@@ -6,9 +6,9 @@ use Rattle.std.proofs.lemmas.Bool.Decides.{nat_tests}
 use Rattle.std.proofs.lemmas.Bool.{eq-eqb}
 use Rattle.mmv_layout.specs.Below.{all_below}
 use Rattle.mmv_layout.specs.Fields.{number64}
-use Rattle.mmv_layout.specs.Sizes.{is_version, instance_size, value_size, string_size}
-use Rattle.mmv_layout.specs.EntryFields.{units_offset_in_metric, count_offset_in_indom, count_in_indom, first_offset_in_indom, first_in_indom, short_offset_in_indom, long_offset_in_indom, number_offset_in_instance, name_offset_in_instance, item_offset_in_metric, type_offset_in_metric, semantics_offset_in_metric, serial_offset_in_metric, short_offset_in_metric, long_offset_in_metric, extra_in_value, instance_in_value}
-use Rattle.mmv_layout.specs.Contents.{version_in, bytes_in, is_short, contents_in, has_good_section, is_aligned, sections_are_good, sections_are_aligned, section_of, cluster_offset}
+use Rattle.mmv_layout.specs.Sizes.{is_version, value_size, string_size}
+use Rattle.mmv_layout.specs.EntryFields.{units_offset_in_metric, count_offset_in_indom, count_in_indom, short_offset_in_indom, long_offset_in_indom, number_offset_in_instance, name_offset_in_instance, item_offset_in_metric, type_offset_in_metric, semantics_offset_in_metric, serial_offset_in_metric, short_offset_in_metric, long_offset_in_metric, extra_in_value, instance_in_value}
+use Rattle.mmv_layout.specs.Contents.{bytes_in, is_short, contents_in, has_good_section, is_aligned, sections_are_good, sections_are_aligned, section_of, cluster_offset}
 use Rattle.mmv_layout.specs.Entries.{leads_to_string, indom_count, indom_at, instance_count, instance_at, metric_count, metric_at, value_count, value_at, string_count, string_at, run_at, help_leads, is_good_indom, is_good_instance, is_no_domain, has_good_fields, is_good_metric, is_good_value, is_good_string, indoms_are_good, instances_are_good, metrics_are_good, values_are_good, strings_are_good}
 use Rattle.mmv_layout.specs.Images.{has_good_header, is_image}
 use Rattle.mmv_layout.proofs.Below.{all_at, both_left, both_right}
@@ -21,7 +21,7 @@ use Rattle.mmv_layout.specs.Rows.{list_below, string_text, help_of, instance_row
 use Rattle.mmv_layout.specs.Form.{slot_at, slots_of, offsets_of, subjects_of, Form, form_of}
 use Rattle.mmv_layout.specs.Says.{LeadsTo}
 use Rattle.mmv_layout.proofs.Goods.{eq_of, either, or_right, leads_there, header, sections, aligned, good_indom, good_instance, good_metric, good_value, good_string}
-use Rattle.mmv_layout.proofs.Looked.{Looked, five_words, looked_indom, looked_metric, looked_string}
+use Rattle.mmv_layout.proofs.Looked.{Looked, five_words, looked_indom, looked_string}
 use Rattle.mmv_layout.proofs.Runs.{run_leads}
 use Rattle.mmv_layout.proofs.RowLists.{rows_same}
 use Rattle.mmv_layout.proofs.SlotLists.{gives_same}

@@ -1,5 +1,5 @@
 -- A name field that fails its test lacks a name.
-use Rattle.std.proofs.Common.{◌≡◌, ℕ, zero, suc, ◌+◌, ◌*◌, ◌<◌, ◌≤◌, Bool, true, false, not, ◌&&◌, ◌||◌, ◌⊎◌, inl, inr, List, [], ◌∷◌, ap, sym, subst, ◌∙◌, refl, arith, cond, nat_eq, ⊎_elim}
+use Rattle.std.proofs.Common.{◌≡◌, ℕ, zero, suc, ◌+◌, ◌<◌, ◌≤◌, Bool, true, false, not, ◌&&◌, ◌||◌, ◌⊎◌, inl, inr, List, [], ◌∷◌, ap, sym, subst, ◌∙◌, refl, arith, cond, nat_eq, ⊎_elim}
 use Rattle.std.proofs.lemmas.Bool.{eq-eqb}
 use Rattle.pcp_base.specs.Names.{spells}
 use Rattle.mmv_layout.specs.Fields.{number64, byte_at, text_at, has_zero}

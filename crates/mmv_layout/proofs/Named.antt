@@ -1,5 +1,5 @@
 -- Names in their fields and in strings.
-use Rattle.std.proofs.Common.{◌≡◌, ℕ, ◌+◌, ◌*◌, ◌<◌, Bool, true, false, inl, inr, List, ap, sym, ◌∙◌, refl, arith, cond, nat_eq, ⊎_elim}
+use Rattle.std.proofs.Common.{◌≡◌, ℕ, ◌<◌, true, false, inl, inr, List, ap, sym, ◌∙◌, arith, cond, nat_eq, ⊎_elim}
 use Rattle.std.proofs.lemmas.Bool.Decides.{nat_tests}
 use Rattle.std.proofs.lemmas.Bool.{eq-eqb}
 use Rattle.mmv_layout.specs.Fields.{number64, text_at}

@@ -1,6 +1,6 @@
 -- What stands at the offsets of an image, row by row (mmv(5)), as values. It is total: where a code has no
 -- meaning, or a reference doesn't lead, it is something, but no image is so.
-use Rattle.std.specs.Prelude.{ℕ, zero, suc, ℤ, ◌+◌, ◌*◌, ◌==◌, nat_le, if◌then◌else◌, List, [], ◌∷◌, ◌++◌, Option, None, Some, unwrap_or}
+use Rattle.std.specs.Prelude.{ℕ, zero, suc, ℤ, ◌==◌, nat_le, if◌then◌else◌, List, [], ◌∷◌, ◌++◌, Option, None, Some, unwrap_or}
 use Rattle.std.specs.Int.{w32, cast_signed}
 use Rattle.pcp_base.specs.Codes.{kind_of_code, semantics_of_code}
 use Rattle.pcp_base.specs.declared.kind.Kind.TheVariants.{I32}

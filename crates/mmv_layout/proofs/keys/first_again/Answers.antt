@@ -1,5 +1,5 @@
 -- What is added is new, and then it was seen.
-use Rattle.std.proofs.Common.{rules, ◌≡◌, ℕ, ◌∙◌, ◌<◌, ◌≤◌, sym, subst, ap, refl, arith, bytes_eq, length, get_or, ◌&&◌, ◌+◌, ◌-◌, take, drop, Bor, List}
+use Rattle.std.proofs.Common.{rules, ◌≡◌, ℕ, ◌∙◌, ◌<◌, ◌≤◌, sym, subst, ap, arith, bytes_eq, length, get_or, ◌&&◌, ◌+◌, Bor, List}
 use Rattle.std.specs.Vec.{vec_len}
 use Rattle.std.specs.List.{list_any}
 use Rattle.mmv_layout.specs.Keys.{key_at, keys_before, is_new_key}
