@@ -10,9 +10,10 @@ use Rattle.pcp_base.specs.Texts.{IsText}
 use Rattle.pcp_base.specs.declared.desc.Desc.{Desc}
 use Rattle.pcp_model.specs.Words.{word}
 use Rattle.pcp_model.specs.Records.{counted_name, counted_names, description, DescriptionInRange}
-use Rattle.archive_meta.specs.Decoding.{◌>>=◌, text_of, first_name, names_from, desc_in, description_in}
-use Rattle.archive_meta.proofs.ZeroBytes.{bind_some, some_is, past, text_is, text_clean}
-use Rattle.archive_meta.proofs.Fields.{WordStands, field_takes, field_again, behind_word}
+use Rattle.pcp_model.specs.Instances.{◌>>=◌, text_of}
+use Rattle.archive_meta.specs.Decoding.{first_name, names_from, desc_in, description_in}
+use Rattle.pcp_model.proofs.ZeroBytes.{bind_some, some_is, past, text_is, text_clean}
+use Rattle.pcp_model.proofs.Fields.{WordStands, field_takes, field_again, behind_word}
 
 pub record NameRead (bytes name : List ℕ) : Type 0 where
   pub is : bytes ≡ counted_name name ++ drop (4 + length name) bytes

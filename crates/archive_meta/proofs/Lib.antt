@@ -2,7 +2,6 @@ pub mod Consistent
 pub mod DescriptionsRead
 pub mod DomainsRead
 pub mod Entries
-pub mod Fields
 pub mod FirstSeen
 pub mod FramedRecords
 pub mod Frames
@@ -16,4 +15,3 @@ pub mod RecordsRead
 pub mod Taken
 pub mod Torn
 pub mod Woven
-pub mod ZeroBytes

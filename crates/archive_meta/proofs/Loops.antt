@@ -1,8 +1,8 @@
 -- Reading one behind the other, as a loop does.
-use Rattle.std.proofs.Common.{◌≡◌, ℕ, ℤ, suc, ◌-◌, ◌+◌, ◌*◌, ◌<◌, ◌≤◌, List, [], ◌∷◌, ◌++◌, length, drop, Option, Some, None, refl, sym, ap, ◌∙◌, append_assoc, arith}
+use Rattle.std.proofs.Common.{◌≡◌, ℕ, suc, ◌-◌, ◌+◌, ◌<◌, ◌≤◌, List, [], ◌∷◌, ◌++◌, length, drop, Option, Some, None, refl, sym, ap, ◌∙◌, append_assoc, arith}
 use Rattle.std.proofs.lemmas.List.{drop-drop, drop_all, length-drop, append-nil}
-use Rattle.archive_meta.specs.Room.{memory_of}
-use Rattle.archive_meta.specs.Decoding.{◌>>=◌, first_name, names_from, pair_at, pairs_from}
+use Rattle.pcp_model.specs.Instances.{◌>>=◌}
+use Rattle.archive_meta.specs.Decoding.{first_name, names_from}
 
 -- what was read before, and what is still read
 abbrev pub with_front : {A : Type 0} → List A → Option (List A) → Option (List A)
@@ -45,33 +45,3 @@ none_behind front (b ∷ bytes) some = refl
 pub names_go_on : (front : List (List ℕ)) (bytes : List ℕ) (n at : ℕ) (total : Option (List (List ℕ))) → n ≡ 0 → at < length bytes → with_front front (names_from n (drop at bytes)) ≡ total → total ≡ None
 names_go_on front bytes n at total none more so_far =
     sym so_far ∙ ap (λ k. with_front front (names_from k (drop at bytes))) none ∙ none_behind front (drop at bytes) (omega (arith, length-drop at bytes))
-
-pub pairs_end : (front : List (ℤ × List ℕ)) (table numbers offsets : List ℕ) (n : ℕ) (total : Option (List (ℤ × List ℕ))) → n ≡ 0 → with_front front (pairs_from table n numbers offsets) ≡ total → total ≡ Some front
-unfolding pairs_from
-pairs_end front table numbers offsets n total none so_far =
-    let one : with_front front (pairs_from table n numbers offsets) ≡ Some front = rw none (ap Some (append-nil front)) in sym so_far ∙ one
-
-pub pairs_on : (front : List (ℤ × List ℕ)) (table numbers offsets : List ℕ) (count i : ℕ) (pair : ℤ × List ℕ) (total : Option (List (ℤ × List ℕ))) → i < count
-    → pair_at (drop (4 * i) numbers) (drop (4 * i) offsets) table ≡ Some pair
-    → with_front front (pairs_from table (count - i) (drop (4 * i) numbers) (drop (4 * i) offsets)) ≡ total
-    → with_front (front ++ pair ∷ []) (pairs_from table (count - (i + 1)) (drop (4 * (i + 1)) numbers) (drop (4 * (i + 1)) offsets)) ≡ total
-unfolding pairs_from
-pairs_on front table numbers offsets count i pair total lt h so_far =
-    let k : count - i ≡ suc (count - (i + 1)) = omega arith in
-    let next : (xs : List ℕ) → drop 4 (drop (4 * i) xs) ≡ drop (4 * (i + 1)) xs = λ xs. drop-drop 4 (4 * i) xs ∙ ap (λ n. drop n xs) (let e : 4 * i + 4 ≡ 4 * (i + 1) = omega arith in e) in
-    let one : with_front front (pairs_from table (count - i) (drop (4 * i) numbers) (drop (4 * i) offsets)) ≡ with_front (front ++ pair ∷ []) (pairs_from table (count - (i + 1)) (drop (4 * (i + 1)) numbers) (drop (4 * (i + 1)) offsets)) =
-    rw (k, h, next numbers, next offsets) (regroup front pair (pairs_from table (count - (i + 1)) (drop (4 * (i + 1)) numbers) (drop (4 * (i + 1)) offsets))) in
-    sym one ∙ so_far
-
-pub no_pair : (front : List (ℤ × List ℕ)) (table numbers offsets : List ℕ) (count i : ℕ) (total : Option (List (ℤ × List ℕ))) → i < count → pair_at numbers offsets table ≡ None
-    → with_front front (pairs_from table (count - i) numbers offsets) ≡ total → total ≡ None
-unfolding pairs_from
-no_pair front table numbers offsets count i total lt h so_far =
-    let k : count - i ≡ suc (count - (i + 1)) = omega arith in
-    let one : with_front front (pairs_from table (count - i) numbers offsets) ≡ None = rw (k, h) refl in
-    sym so_far ∙ one
-
--- what instances take, one more at a time
-pub memory_more : (pairs : List (ℤ × List ℕ)) (p : ℤ × List ℕ) → memory_of (pairs ++ p ∷ []) ≡ memory_of pairs + (64 + length p.1)
-memory_more [] p = omega arith
-memory_more (x ∷ pairs) p = omega (arith, memory_more pairs p)

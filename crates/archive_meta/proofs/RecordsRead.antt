@@ -10,10 +10,11 @@ use Rattle.pcp_model.specs.Words.{word}
 use Rattle.pcp_model.specs.declared.records.MetaRecord.{MetaRecord}
 use Rattle.pcp_model.specs.declared.records.MetaRecord.TheVariants.{Description, Domain, Other}
 use Rattle.pcp_model.specs.Records.{IsRecord, description, domain_head, word_bytes, instance_words}
-use Rattle.archive_meta.specs.Decoding.{◌>>=◌, description_in, domain_in, record_in, stamp_in, stamped_in}
+use Rattle.pcp_model.specs.Instances.{◌>>=◌}
+use Rattle.archive_meta.specs.Decoding.{description_in, domain_in, record_in, stamp_in, stamped_in}
 use Rattle.archive_meta.specs.Stamped.{IsStamped}
-use Rattle.archive_meta.proofs.ZeroBytes.{bind_some, some_is, past, only}
-use Rattle.archive_meta.proofs.Fields.{WordStands, field_takes, field_again, behind_word}
+use Rattle.pcp_model.proofs.ZeroBytes.{bind_some, some_is, past, only}
+use Rattle.pcp_model.proofs.Fields.{WordStands, field_takes, field_again, behind_word}
 use Rattle.archive_meta.proofs.DescriptionsRead.{description_takes, description_again}
 use Rattle.archive_meta.proofs.DomainsRead.{StampRead, stamp_takes, stamp_again, domain_takes, domain_again}
 

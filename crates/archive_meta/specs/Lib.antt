@@ -9,7 +9,6 @@ pub mod Missing
 pub mod Order
 pub mod Ranges
 pub mod Records
-pub mod Room
 pub mod Said
 pub mod Stamped
 pub mod Woven

@@ -11,8 +11,8 @@ ghost use Rattle.archive_meta.specs.Woven.{with_other_records};
 use crate::adding::{forget, note};
 use crate::descriptions::{Descriptions, position_of};
 use crate::moments::{Moments, last_moment};
-use pcp_base::{InDom, List, NoMemory, Pmid, Stamp, Text};
-use pcp_model::MetaRecord;
+use pcp_base::{InDom, List, NoMemory, Pmid, Stamp};
+use pcp_model::{DomainInstances, MetaRecord};
 
 /// The most records that are kept: their positions are below it. A Meta of less than 2^31 bytes has far fewer; more are
 /// refused as want of memory.
@@ -34,7 +34,7 @@ pub fn description_of<'a>(
 }
 
 /// The instances in the record at a position.
-fn pairs_at(records: &List<MetaRecord>, at: usize) -> Option<&List<(i32, Text)>>
+fn pairs_at(records: &List<MetaRecord>, at: usize) -> Option<&DomainInstances>
     ensures { option_copied result ≡ pairs_of (slice_get records.now at) }
 {
     match records.get(at) {
@@ -49,7 +49,7 @@ pub fn domain_at<'a>(
     moments: &Moments,
     indom: InDom,
     t: Stamp,
-) -> Option<&'a List<(i32, Text)>>
+) -> Option<&'a DomainInstances>
     requires moments { HasMoments moments.now records.now }
     requires few { length records.now < 4294967296 }
     ensures { MatchOption (option_copied result) ((pairs : Sequence (ℤ × Sequence ℕ)) → HoldsAt records.now indom t pairs → ⊥) (HoldsAt records.now indom t) }

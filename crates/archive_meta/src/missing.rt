@@ -6,7 +6,6 @@ ghost use Rattle.pcp_model.specs.Described.{HoldsAt};
 ghost use Rattle.archive_meta.specs.Facts.{fact_of, metric_of};
 ghost use Rattle.archive_meta.specs.Missing.{is_undescribed, undescribed_metrics, values_of_keys, shown_domain, shown_domains, domains_of, Tells, AreMissingDomains, listed_from, position_from, at_positions};
 
-use crate::adding::is_same_text;
 use crate::descriptions::position_of;
 use crate::facts::Facts;
 use crate::fitting::has_values;
@@ -14,26 +13,6 @@ use crate::state::MetaState;
 use crate::taking::{Positions, domain_keys, first_positions, metric_keys, take_positions};
 use pcp_base::{Desc, InDom, List, NoMemory, PmResult, Stamp, Text, ValueSet};
 use std::alloc::Global;
-
-fn is_same_pair(a: &(i32, Text), b: &(i32, Text)) -> bool
-    ensures { IsTrue result ↔ (a.now ≡ b.now) }
-{
-    a.0 == b.0 && is_same_text(&a.1, &b.1)
-}
-
-fn are_same_pairs(a: &[(i32, Text)], b: &[(i32, Text)]) -> bool
-    ensures { IsTrue result ↔ (a.now ≡ b.now) }
-{
-    if a.len() != b.len() {
-        return false;
-    }
-    for i in 0..a.len() {
-        if !is_same_pair(&a[i], &b[i]) {
-            return false;
-        }
-    }
-    true
-}
 
 /// The domain by the facts of the metric of a set with values.
 fn shown_domain(
@@ -137,7 +116,7 @@ impl MetaState {
         ensures { Tells self.now t (indom, pairs.now) result }
     {
         match self.domain_at(indom, t) {
-            Some(held) => are_same_pairs(held.as_slice(), pairs),
+            Some(held) => held.are(pairs),
             None => false,
         }
     }

@@ -7,8 +7,8 @@ ghost use Rattle.pcp_model.specs.Records.{IsRecord};
 ghost use Rattle.archive_meta.specs.Decoding.{record_in, stamped_in};
 ghost use Rattle.archive_meta.specs.Stamped.{IsStamped};
 
+use crate::record_domain::{read_domain, stamp_in};
 use crate::record_names::read_description;
-use crate::record_pairs::{read_domain, stamp_in};
 use pcp_base::{NoMemory, Stamp, be32};
 use pcp_model::MetaRecord;
 use std::alloc::Global;
@@ -24,7 +24,9 @@ fn record_in(alloc: Global, payload: &[u8]) -> Result<Option<MetaRecord>, NoMemo
             None => Ok(None),
         },
         Some(2) => match read_domain(alloc, payload)? {
-            Some((stamp, indom, pairs)) => Ok(Some(MetaRecord::Domain(stamp, indom, pairs))),
+            Some((stamp, indom, instances)) => {
+                Ok(Some(MetaRecord::Domain(stamp, indom, instances)))
+            }
             None => Ok(None),
         },
         Some(_) => Ok(Some(MetaRecord::Other)),

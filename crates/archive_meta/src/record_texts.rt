@@ -1,7 +1,8 @@
 //! The texts of a record.
 ghost use Rattle.std.specs.Prelude.{◌≡◌, ◌+◌, ◌<◌, ◌≤◌, length, take, position, IfOk, IfSome, IfNone};
 ghost use Rattle.pcp_base.specs.Texts.{IsText};
-ghost use Rattle.archive_meta.specs.Decoding.{is_zero, text_of, name_at, first_name};
+ghost use Rattle.pcp_model.specs.Instances.{is_zero, text_of};
+ghost use Rattle.archive_meta.specs.Decoding.{first_name};
 
 use memchr::memchr;
 use pcp_base::{NoMemory, Text, be32};
@@ -18,28 +19,12 @@ fn zero_in(bytes: &[u8]) -> Option<usize>
 }
 
 /// The text of bytes of which none is zero.
-#[tactic(auto, using(crate::proofs::ZeroBytes::text_clean))]
+#[tactic(auto, using(pcp_model::proofs::ZeroBytes::text_clean))]
 fn clean_text(alloc: Global, bytes: &[u8]) -> Result<Option<Text>, NoMemory>
     requires { IsText bytes.now }
     ensures { IfOk result (λ found. found ≡ text_of bytes.now) }
 {
     Ok(Some(Text::clean_copy(alloc, bytes)?))
-}
-
-/// The name that begins at an offset of a table, up to the first zero byte.
-#[tactic(auto, unfolding(crate::specs::Decoding::name_at))]
-pub fn name_at(alloc: Global, table: &[u8], offset: u32) -> Result<Option<Text>, NoMemory>
-    ensures { IfOk result (λ found. found ≡ name_at table.now offset) }
-{
-    let from = offset as usize;
-    if table.len() < from {
-        return Ok(None);
-    }
-    let rest = &table[from..];
-    match zero_in(rest) {
-        Some(end) => clean_text(alloc, &rest[..end]),
-        None => Ok(None),
-    }
 }
 
 /// The name with which bytes begin, whose length stands in front of it.

@@ -18,7 +18,7 @@ use crate::keeping::{cut, description_of, domain_at, push};
 use crate::moments::Moments;
 use indexmap::IndexMap;
 use pcp_base::{Desc, InDom, List, NoMemory, Pmid, Stamp, Text};
-use pcp_model::MetaRecord;
+use pcp_model::{DomainInstances, MetaRecord};
 use std::alloc::Global;
 use std::collections::BTreeSet;
 use std::marker::Model;
@@ -230,7 +230,7 @@ impl MetaState {
     }
 
     /// The instances of a domain at a moment, by number and name; `None` exactly where no record of it holds then.
-    pub fn domain_at(&self, indom: InDom, t: Stamp) -> Option<&List<(i32, Text)>>
+    pub fn domain_at(&self, indom: InDom, t: Stamp) -> Option<&DomainInstances>
         ensures { MatchOption (option_copied result) ((pairs : Sequence (ℤ × Sequence ℕ)) → HoldsAt self.now indom t pairs → ⊥) (HoldsAt self.now indom t) }
     {
         domain_at(&self.records, &self.moments, indom, t)

@@ -1,4 +1,4 @@
-use Rattle.archive_meta.proofs.ZeroBytes.{zero_offset, zero_within, zero_front, zero_nowhere}
+use Rattle.pcp_model.proofs.ZeroBytes.{zero_offset, zero_within, zero_front, zero_nowhere}
 use Rattle.archive_meta.proofs.record_texts.zero_in.Goals as goal
 
 pub returns-clause-value : goal.returns-clause-value

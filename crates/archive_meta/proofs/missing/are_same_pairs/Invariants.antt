@@ -1,6 +1,0 @@
--- So far they are the same.
-use Rattle.std.proofs.Common.{◌≡◌, take}
-use Rattle.archive_meta.proofs.missing.are_same_pairs.Given as goal
-
-abbrev pub invariant-loop-i : goal.invariant-loop-i
-invariant-loop-i l = take l.i l.a ≡ take l.i l.b
