@@ -31,7 +31,7 @@ use Rattle.archive_recovery.specs.declared.reading.Top.{Top}
 use Rattle.archive_recovery.specs.declared.stamps.Tally.{Tally}
 use Rattle.archive_recovery.specs.Damage.{IsIndexEnd, IsLastEnd, IsBare}
 use Rattle.archive_recovery.specs.RecoverFaults.{IsRefused, AreWholeBelow, VolumeIsRefused}
-use Rattle.archive_recovery.specs.Stamps.{domain_stamps}
+use Rattle.archive_recovery.specs.Stamps.{domain_stamps, entry_stamps, IsLatestOn}
 use Rattle.archive_recovery.specs.Surveys.{MetaStands, HeadStands, IsSighted}
 use Rattle.archive_recovery.specs.Volumes.{IsLastOf, VolumesStand}
 use Rattle.archive_recovery.proofs.Volumes.{none_long}
@@ -60,10 +60,13 @@ module _ (bytes : List ℕ) (l : LabelFields) (records : List MetaRecord) (end :
 meta_with : (bytes : List ℕ) (l : LabelFields) (records : List MetaRecord) (es : List Entry) (vs : List (ℕ × List Item)) → IsMeta bytes (contents_with l records [] []) → IsMeta bytes (contents_with l records es vs)
 meta_with bytes l records es vs m = record { torn = m.torn; is_torn = m.is_torn; holds = m.holds; consistent = m.consistent }
 
--- and no item was counted
-pub meta_stands : (files : Files) (l : LabelFields) (records : List MetaRecord) (e : MetaEnd) → HasEnd (files Meta) l records e
-    → MetaStands files l records (record { end = e.end; length = e.length }) (record { items = 0; last = e.last })
-meta_stands files l records e h = record { has_label = h.has_label; all = h.all; size = h.size; none = refl }
+pub meta_stands : (files : Files) (l : LabelFields) (records : List MetaRecord) (e : MetaEnd) → HasEnd (files Meta) l records e → MetaStands files l records (record { end = e.end; length = e.length }) e.last
+meta_stands files l records e h = record { has_label = h.has_label; all = h.all; size = h.size }
+
+-- with the index, no item was counted
+pub head_stands : (files : Files) (l : LabelFields) (records : List MetaRecord) (tail : Tail) (last latest : Option Moment) (es : List Entry) (size : ℕ) → MetaStands files l records tail last → IsIndex (files Index) (contents_with l [] es [])
+    → size ≡ length (files Index) → IsLatestOn last (entry_stamps es) latest → HeadStands files l records tail (record { items = 0; last = latest }) es size
+head_stands files l records tail last latest es size m index is later = record { of_meta = last; meta = m; index = index; is_size = is; latest = later (domain_stamps records) m.all.latest; none = refl }
 
 -- ---- the index
 
@@ -90,7 +93,7 @@ index_ends bytes c size (Some n) is (inr has) long =
 
 module _ (files : Files) (l : LabelFields) (records : List MetaRecord) (tail : Tail) (tally : Tally) (es : List Entry) (size : ℕ) (head : HeadStands files l records tail tally es size) where
   pub head_is : HeadIs files l records es
-  head_is = record { meta = meta_reads (files Meta) l records tail.end tally.last head.meta.has_label head.meta.all; index = head.index }
+  head_is = record { meta = meta_reads (files Meta) l records tail.end head.of_meta head.meta.has_label head.meta.all; index = head.index }
 
   pub volume_refused : (n offset : ℕ) → AreWholeBelow files l n × VolumeIsRefused files l n offset → IsRefused files (Volume n) offset
   volume_refused n offset (below, refused) = (l, records, es, head_is, below, refused)
@@ -159,8 +162,8 @@ module _ (files : Files) (l : LabelFields) (records : List MetaRecord) (tail : T
       found = record {
         is = is_archive beside;
         left = take tail.end (files Meta);
-        meta = meta_mended (files Meta) l records tail.end tally.last head.meta.has_label head.meta.all;
-        meta_end = meta_within (files Meta) l records tail.end tally.last head.meta.has_label head.meta.all;
+        meta = meta_mended (files Meta) l records tail.end head.of_meta head.meta.has_label head.meta.all;
+        meta_end = meta_within (files Meta) l records tail.end head.of_meta head.meta.has_label head.meta.all;
         index = index_ends (files Index) contents size end head.is_size (index_with (files Index) l records es v.volumes head.index) ends;
         last = last_is last v.ends;
         bare = bare_is top.bare refl;
@@ -172,6 +175,6 @@ module _ (files : Files) (l : LabelFields) (records : List MetaRecord) (tail : T
       last_size = last_long last v.ends;
       ascend = v.ascend;
       top_is = v.top_is;
-      counted = omega (arith, v.counted.more, head.meta.none);
-      latest = v.counted.on (domain_stamps records) head.meta.all.latest;
+      counted = omega (arith, v.counted.more, head.none);
+      latest = v.counted.on (domain_stamps records ++ entry_stamps es) head.latest;
     }

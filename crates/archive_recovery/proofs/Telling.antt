@@ -31,7 +31,7 @@ use Rattle.archive_recovery.specs.declared.whole.Damage.{Damage}
 use Rattle.archive_recovery.specs.Damage.{Found, AreLengths}
 use Rattle.archive_recovery.specs.Halfway.{IsLess, HalfwayFrom}
 use Rattle.archive_recovery.specs.Mending.{MayBeCut}
-use Rattle.archive_recovery.specs.Stamps.{domain_stamps, item_stamps, IsLatest}
+use Rattle.archive_recovery.specs.Stamps.{domain_stamps, entry_stamps, item_stamps, IsLatest}
 use Rattle.archive_recovery.specs.Surveys.{IsSighted}
 use Rattle.archive_recovery.specs.Told.{IsTold, IsToldEmpty, WasRecovered}
 use Rattle.archive_recovery.specs.Volumes.{Ascend, TopIs}
@@ -119,7 +119,7 @@ module _ (files : Files) (s : Sighted) (is : IsSighted files s) where
       above = last_left.above;
       volume_ends = last_left.ends;
       counted = is.counted ∙ ap length (sym same_scan);
-      latest = subst (λ (items : List Item). IsLatest (domain_stamps s.meta ++ item_stamps items) s.tally.last) (sym same_scan) is.latest;
+      latest = subst (λ (items : List Item). IsLatest (domain_stamps s.meta ++ entry_stamps s.index ++ item_stamps items) s.tally.last) (sym same_scan) is.latest;
     }
 
     pub was_recovered : WasRecovered files left (record { label = Some s.label; meta = s.meta; meta_length = s.damage.meta.end; index = s.index; volume = s.top.volume; length = s.top.length; items = s.tally.items; last = s.tally.last })

@@ -26,7 +26,7 @@ pub record IsReadOn (image : Files) (r : ArchiveReading) : Type 0 where
 abbrev pub HalfwayIsRead : Type 0
 HalfwayIsRead = (files image : Files) (r : ArchiveReading) → Reads files r → HalfwayFrom files r image → IsReadOn image r
 
--- what recovery leaves of one is what it leaves of the other, but for entries of the index
+-- What recovery leaves of one is what it leaves of the other, but for entries of the index: their stamps the latest one may then lack.
 pub record SameArchive (left again : Files) : Type 0 where
   pub meta : again Meta ≡ left Meta
   pub volumes : (n : ℕ) → again (Volume n) ≡ left (Volume n)

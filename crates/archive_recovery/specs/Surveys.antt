@@ -1,6 +1,7 @@
 -- What reading a whole archive finds, before anything is changed.
-use Rattle.std.specs.Prelude.{◌≡◌, ℕ, pos, negsuc, ◌<◌, List, [], ◌++◌, length, take, IfSome}
+use Rattle.std.specs.Prelude.{◌≡◌, ℕ, pos, negsuc, ◌<◌, List, [], ◌++◌, length, take, IfSome, Option}
 use Rattle.pcp_base.specs.declared.file.FileId.TheVariants.{Meta, Index, Volume}
+use Rattle.pcp_base.specs.Time.{Moment}
 use Rattle.pcp_base.specs.declared.result.Item.{Item}
 use Rattle.pcp_model.specs.declared.records.MetaRecord.{MetaRecord}
 use Rattle.pcp_model.specs.declared.records.Entry.{Entry}
@@ -18,21 +19,23 @@ use Rattle.archive_recovery.specs.declared.survey.Sighted.{Sighted}
 use Rattle.archive_recovery.specs.declared.survey.Survey.{Survey}
 use Rattle.archive_recovery.specs.declared.survey.Survey.TheVariants.{Begun, Archive}
 use Rattle.archive_recovery.specs.Damage.{Found}
-use Rattle.archive_recovery.specs.Stamps.{domain_stamps, item_stamps, IsLatest}
+use Rattle.archive_recovery.specs.Stamps.{domain_stamps, entry_stamps, stamps_in, IsLatest}
 use Rattle.archive_recovery.specs.Volumes.{Ascend, IsTopOf}
 
--- Meta, before any item is counted
-pub record MetaStands (files : Files) (l : LabelFields) (records : List MetaRecord) (tail : Tail) (tally : Tally) : Type 0 where
+-- Meta, and the latest stamp in it
+pub record MetaStands (files : Files) (l : LabelFields) (records : List MetaRecord) (tail : Tail) (last : Option Moment) : Type 0 where
   pub has_label : IsLabel (take 132 (files Meta)) l (negsuc 0)
-  pub all : AreAllRecords (files Meta) records tail.end tally.last
+  pub all : AreAllRecords (files Meta) records tail.end last
   pub size : tail.length ≡ length (files Meta)
-  pub none : tally.items ≡ 0
 
--- and the index
+-- and the index, with the latest stamp in both, before any item is counted
 pub record HeadStands (files : Files) (l : LabelFields) (records : List MetaRecord) (tail : Tail) (tally : Tally) (entries : List Entry) (size : ℕ) : Type 0 where
-  pub meta : MetaStands files l records tail tally
+  pub of_meta : Option Moment
+  pub meta : MetaStands files l records tail of_meta
   pub index : IsIndex (files Index) (contents_with l [] entries [])
   pub is_size : size ≡ length (files Index)
+  pub latest : IsLatest (domain_stamps records ++ entry_stamps entries) tally.last
+  pub none : tally.items ≡ 0
 
 -- the archive, what there is to mend, and what is told of it
 pub record IsSighted (files : Files) (s : Sighted) : Type 0 where
@@ -44,7 +47,7 @@ pub record IsSighted (files : Files) (s : Sighted) : Type 0 where
   pub ascend : Ascend (labelled_volumes files volumes)
   pub top_is : IsTopOf files s.label (labelled_volumes files volumes) s.top
   pub counted : s.tally.items ≡ length (items_of volumes)
-  pub latest : IsLatest (domain_stamps s.meta ++ item_stamps (items_of volumes)) s.tally.last
+  pub latest : IsLatest (stamps_in (contents_with s.label s.meta s.index volumes)) s.tally.last
 
 -- Meta is less than its label
 abbrev pub IsBegun : Files → ℕ → Type 0

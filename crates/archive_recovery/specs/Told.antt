@@ -1,11 +1,11 @@
 -- What recovery tells of the files that it leaves.
-use Rattle.std.specs.Prelude.{◌≡◌, ℕ, ◌<◌, [], ◌++◌, length, Some, None}
+use Rattle.std.specs.Prelude.{◌≡◌, ℕ, ◌<◌, [], length, Some, None}
 use Rattle.pcp_base.specs.declared.file.FileId.TheVariants.{Meta, Volume}
 use Rattle.pcp_model.specs.Archive.{ArchiveContents, ArchiveReading, Reads, items_of}
 use Rattle.pcp_model.specs.Disk.{Files}
 use Rattle.pcp_model.specs.Recovered.{Recovers, recovered_reading}
 use Rattle.archive_recovery.specs.declared.outcome.Archive.{Archive}
-use Rattle.archive_recovery.specs.Stamps.{domain_stamps, item_stamps, IsLatest}
+use Rattle.archive_recovery.specs.Stamps.{IsLatest, stamps_in}
 
 -- a creation that was stopped
 pub record IsToldEmpty (a : Archive) : Type 0 where
@@ -18,7 +18,8 @@ pub record IsToldEmpty (a : Archive) : Type 0 where
   pub no_items : a.items ≡ 0
   pub no_stamp : a.last ≡ None
 
--- Label, metadata, index; the last volume that isn't empty; how many items the scan has; and the latest stamp.
+-- Label, metadata, index; the last volume that isn't empty; how many items the scan has; and the latest stamp of any of them: of an
+-- instance domain, of an entry of the index, or of an item.
 pub record IsTold (left : Files) (c : ArchiveContents) (a : Archive) : Type 0 where
   pub says : a.label ≡ Some c.label
   pub records : a.meta ≡ c.records
@@ -28,7 +29,7 @@ pub record IsTold (left : Files) (c : ArchiveContents) (a : Archive) : Type 0 wh
   pub above : (n : ℕ) → a.volume < n → left (Volume n) ≡ []
   pub volume_ends : a.length ≡ length (left (Volume a.volume))
   pub counted : a.items ≡ length (items_of c.volumes)
-  pub latest : IsLatest (domain_stamps c.records ++ item_stamps (items_of c.volumes)) a.last
+  pub latest : IsLatest (stamps_in c) a.last
 
 abbrev pub IsToldOf : Files → ArchiveReading → Archive → Type 0
 IsToldOf left ArchiveReading.nothing a = IsToldEmpty a

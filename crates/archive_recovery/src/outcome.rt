@@ -28,7 +28,7 @@ pub struct Archive {
     pub length: u64,
     /// How many items the volumes have.
     pub items: u64,
-    /// The latest stamp of an item or of a domain's record.
+    /// The latest stamp of an item, of a domain's record or of an entry of the index. An entry that a crash took isn't counted.
     pub last: Option<Stamp>,
 }
 

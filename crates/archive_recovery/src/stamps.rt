@@ -1,12 +1,14 @@
 //! The latest stamp so far, and how many items.
-ghost use Rattle.std.specs.Prelude.{◌≡◌, [], ◌∷◌, OnOk};
+ghost use Rattle.std.specs.Prelude.{◌≡◌, ◌+◌, [], ◌∷◌, ◌++◌, take, option_to_list, OnOk};
 ghost use Rattle.pcp_model.specs.Payload.{stamp_of};
 ghost use Rattle.archive_recovery.specs.Counts.{CountsMore};
+ghost use Rattle.archive_recovery.specs.Stamps.{entry_stamps, IsLatestOn};
 
-use archive_loading::later;
+use archive_loading::{later, later_by};
 use pcp_base::{Item, NoMemory, Stamp};
+use temporal_index::Index;
 
-/// How many items there are so far, and the latest stamp of them and of domains' records.
+/// How many items there are so far, and the latest stamp of them, of the index's entries and of domains' records.
 #[derive(Clone, Copy, Debug, PartialEq, Eq)]
 pub struct Tally {
     pub items: u64,
@@ -21,6 +23,27 @@ fn stamp_of(item: &Item) -> Stamp
         Item::Sample(result) => result.stamp,
         Item::Mark(stamp) => *stamp,
     }
+}
+
+/// The stamp of an index's entry at a position, if there is one.
+fn stamp_at(index: &Index, at: u64) -> Option<Stamp>
+    ensures { entry_stamps (take (at + 1) index.now) ≡ entry_stamps (take at index.now) ++ option_to_list result }
+{
+    match index.entry(at) {
+        Some(entry) => Some(entry.stamp),
+        None => None,
+    }
+}
+
+/// The latest stamp where the entries of an index come.
+pub(crate) fn later_entry(last: Option<Stamp>, index: &Index) -> Option<Stamp>
+    ensures { IsLatestOn last (entry_stamps index.now) result }
+{
+    let mut latest = last;
+    for at in 0..index.len() {
+        latest = later_by(latest, stamp_at(index, at));
+    }
+    latest
 }
 
 impl Tally {

@@ -11,10 +11,11 @@ ghost use Rattle.archive_recovery.specs.Surveys.{MetaStands, HeadStands, IsSight
 use crate::mending::Tail;
 use crate::outcome::RecoverFault;
 use crate::reading::{Top, VolumesRead, read_volumes};
-use crate::stamps::Tally;
+use crate::stamps::{Tally, later_entry};
 use crate::whole::Damage;
 use archive_loading::{IndexPart, MetaPart, is_alone, length_of, load_index, load_meta};
 use archive_meta::MetaState;
+use pcp_base::Stamp;
 use pcp_model::Label;
 use pcp_outside::{Disk, FileId};
 use std::alloc::Global;
@@ -59,7 +60,7 @@ fn is_beside(index: &Index, bare: bool) -> bool
     !bare
 }
 
-/// The volumes of an archive with this metadata and this index.
+/// The volumes of an archive with this metadata and this index; `tally` has the latest stamp of both.
 fn survey_volumes<D: Disk>(
     alloc: Global,
     disk: &mut D,
@@ -109,16 +110,16 @@ fn survey_volumes<D: Disk>(
     }
 }
 
-/// The index and the volumes of an archive with this metadata.
+/// The index and the volumes of an archive with this metadata, whose latest stamp is `last`.
 fn survey_index<D: Disk>(
     alloc: Global,
     disk: &mut D,
     label: Label,
     meta: MetaState,
     tail: Tail,
-    tally: Tally,
+    last: Option<Stamp>,
 ) -> Result<Sighted, RecoverFault>
-    requires { D.tells → MetaStands (contents_of (D.held disk.old)) label meta tail tally }
+    requires { D.tells → MetaStands (contents_of (D.held disk.old)) label meta tail last }
     ensures sighted { D.tells → IfOk result (IsSighted (contents_of (D.held disk.old))) }
     ensures low { IfOk result SightIsLow }
     ensures fault { D.tells → IfErr result (IsFilesRefusal (contents_of (D.held disk.old))) }
@@ -129,6 +130,10 @@ fn survey_index<D: Disk>(
     let length = length_of(disk, FileId::Index)?;
     match load_index(alloc, disk, &label)? {
         IndexPart::Whole(index) => {
+            let tally = Tally {
+                items: 0,
+                last: later_entry(last, &index),
+            };
             survey_volumes(alloc, disk, label, meta, tail, tally, index, length)
         }
         IndexPart::Stops(at) => Err(RecoverFault::NotArchive {
@@ -172,11 +177,7 @@ pub(crate) fn sight<D: Disk>(alloc: Global, disk: &mut D) -> Result<Survey, Reco
                 end: end.end,
                 length: end.length,
             };
-            let tally = Tally {
-                items: 0,
-                last: end.last,
-            };
-            let sighted = survey_index(alloc, disk, label, meta, tail, tally)?;
+            let sighted = survey_index(alloc, disk, label, meta, tail, end.last)?;
             Ok(Survey::Archive(sighted))
         }
         MetaPart::Begun(length) => survey_begun(disk, length),

@@ -4,7 +4,6 @@ use Rattle.pcp_model.specs.Disk.{contents_of}
 use Rattle.archive_loading.proofs.Looking.{looks_on}
 use Rattle.archive_loading.specs.Metadata.{HasEnd, IsMetaPart, IsReadTo}
 use Rattle.archive_recovery.specs.declared.mending.Tail.{Tail}
-use Rattle.archive_recovery.specs.declared.stamps.Tally.{Tally}
 use Rattle.archive_recovery.specs.Surveys.{IsBegun, MetaStands}
 use Rattle.archive_recovery.proofs.Surveying.{meta_stands}
 use Rattle.archive_recovery.proofs.survey.sight.Goals as goal
@@ -21,8 +20,7 @@ survey_index-requires g c = λ tells.
     let files = contents_of (g.D.Disk.held c.args.disk.now) in
     let end : HasEnd (files Meta) c.in-Whole.label c.in-Whole.meta c.in-Whole.end = subst (IsReadTo (files Meta)) c.in-Whole.is (c.in_ok-label.ensures.end tells) in
     let tail : Tail = record { end = c.in-Whole.end.end; length = c.in-Whole.end.length } in
-    let tally : Tally = record { items = 0; last = c.in-Whole.end.last } in
-    subst (λ h. MetaStands (contents_of h) c.in-Whole.label c.in-Whole.meta tail tally) (sym (c.load_meta.ensures.looks.held tells)) (meta_stands files c.in-Whole.label c.in-Whole.meta c.in-Whole.end end)
+    subst (λ h. MetaStands (contents_of h) c.in-Whole.label c.in-Whole.meta tail c.in-Whole.end.last) (sym (c.load_meta.ensures.looks.held tells)) (meta_stands files c.in-Whole.label c.in-Whole.meta c.in-Whole.end end)
 
 pub survey_begun-requires : goal.survey_begun-requires
 survey_begun-requires g c = λ tells.
