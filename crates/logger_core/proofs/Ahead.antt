@@ -1,6 +1,6 @@
 -- What a run leaves, on a disk that is only thought of: each step of its writing is made there, and none fails.
 use Rattle.std.proofs.Common.{◌≡◌, ℕ, pos, negsuc, ◌+◌, ◌<◌, Bool, true, false, List, [], ◌∷◌, Option, None, Some, refl, sym, ap, ◌∙◌, subst, arith, cond}
-use Rattle.std.specs.Prelude.{option_to_list}
+use Rattle.std.specs.Prelude.{IfSome, option_to_list}
 use Rattle.pcp_base.specs.Time.{Moment, IsMoment}
 use Rattle.pcp_base.specs.declared.file.FileId.{FileId}
 use Rattle.pcp_base.specs.declared.file.FileId.TheVariants.{Meta, Index, Volume}
@@ -22,9 +22,9 @@ use Rattle.logger_core.specs.Grouping.{Told, AreAllEnough, samples_of}
 use Rattle.logger_core.specs.Held.{IsRunOf, MayRun, RunWritten, after_run}
 use Rattle.logger_core.specs.LogSteps.{switch_entry, with_new_volume, with_run}
 use Rattle.logger_core.specs.Meant.{Meant, IsAt}
-use Rattle.logger_core.specs.Planning.{due_at, flushed_ends, opened_ends, ready_ends, switch_at, switched_ends, with_put}
+use Rattle.logger_core.specs.Planning.{due_at, flushed_ends, has_stood, opened_ends, ready_ends, switch_at, switched_ends, with_put}
 use Rattle.logger_core.specs.Runs.{AreItemsToCome, IsReady}
-use Rattle.logger_core.specs.Steps.{IsGreatest, up_to, with_entry}
+use Rattle.logger_core.specs.Steps.{up_to, with_entry}
 use Rattle.logger_core.proofs.Dues.{Due, due_is, fitting_is}
 use Rattle.logger_core.proofs.EntryPut.{entry_appended}
 use Rattle.logger_core.proofs.ItemsPut.{items_grown}
@@ -34,8 +34,8 @@ use Rattle.logger_core.proofs.RecordsPut.{records_grown}
 use Rattle.logger_core.proofs.Rests.{few_acknowledged, synced_at}
 use Rattle.logger_core.proofs.RunPut.{items_come, run_ends, run_grown}
 use Rattle.logger_core.proofs.RunsWritten.{first_many, may_run, run_written}
-use Rattle.logger_core.proofs.Timely.{archive_timely, label_in_range}
-use Rattle.logger_core.proofs.Turned.{due_leads, due_room, flushed, none_put, ready_already, switch_leads, switch_room, switched_ready}
+use Rattle.logger_core.proofs.Timely.{label_in_range}
+use Rattle.logger_core.proofs.Turned.{all_flushed, due_leads, due_room, flushed, none_put, ready_already, switch_leads, switch_room, switched_ready}
 
 -- a file of it becomes this
 pub set_is : (file : FileId) (h : Held) (held : Holdings) → Becomes file h held (with_file file h held)
@@ -50,9 +50,7 @@ put_greatest (Some x) e = refl
 
 -- the greatest stamp is a moment
 greatest_moment : (m : Meant) (e : Ends) (held : Holdings) (t : Moment) → IsAt m e held → e.greatest ≡ Some t → IsMoment t
-greatest_moment m e held t at is =
-    let greatest : IsGreatest m.contents (Some t) = subst (IsGreatest m.contents) is at.ends.greatest in
-    archive_timely m.files m.contents at.stands.keeps.is t greatest.0
+greatest_moment m e held t at is = subst (λ (o : Option Moment). IfSome o IsMoment) (sym at.ends.greatest ∙ is) at.ends.moment
 
 -- an entry is put, if there is one
 put_ahead : (m : Meant) (e : Ends) (held : Holdings) (o : Option Entry) → IsAt m e held → LeadIfAny m e held o → e.volume < 2147483648 → HasRoomIfAny e o → ((x : Entry) → o ≡ Some x → IsMoment x.stamp)
@@ -83,14 +81,14 @@ module _ (m : Meant) (e : Ends) (held : Holdings) (at : IsAt m e held) (low : e.
 
   due_moment : (x : Entry) → due_at (all_counted e) ≡ Some x → IsMoment x.stamp
   due_moment x is =
-      let d : Due e.greatest e.logged e.index e.volume e.meta e.length x = due_is e.greatest e.logged e.entry e.index e.volume e.meta e.length x is in
+      let d : Due e.greatest e.index e.volume e.meta e.length x = due_is e.greatest (has_stood e) e.entry e.index e.volume e.meta e.length x is in
       subst IsMoment (ap (λ (y : Entry). y.stamp) (sym d.is)) (greatest_moment m e held d.t at d.stamped)
 
   put : (new : Holdings) × GrownTo (all_acknowledged m) [] (option_to_list (due_at (all_counted e))) [] (with_entry (due_at (all_counted e)) m.files) (flushed_ends e) new × ((n : ℕ) → IsVolumeSure n synced → IsVolumeSure n new)
   put = put_ahead (all_acknowledged m) (all_counted e) synced (due_at (all_counted e)) now_at (due_leads (all_acknowledged m) (all_counted e) synced now_at now_sure) low (due_room (all_counted e)) due_moment
 
   flush_ahead : (new : Holdings) × FlushIsDone m e (flushed_ends e) new × IsVolumeSure e.volume new
-  flush_ahead = (put.0, flushed m e (all_counted e) (flushed_ends e) held put.0 at refl refl now_at.ends put.1, put.2 e.volume now_sure)
+  flush_ahead = (put.0, flushed m e (all_counted e) (flushed_ends e) held put.0 at refl (put_greatest (due_at (all_counted e)) (all_counted e)) now_at.ends put.1, put.2 e.volume now_sure)
 
   module _ (next_low : e.volume + 1 < 2147483648) where
     abbrev fl : Ends
@@ -121,10 +119,10 @@ module _ (m : Meant) (e : Ends) (held : Holdings) (at : IsAt m e held) (low : e.
     label_is = set_is (Volume (fl.volume + 1)) (made_sure (mid (Volume (fl.volume + 1))) (label l (pos (fl.volume + 1)))) mid
 
     opened : GrownTo f.new [] [] [] (with_new_volume l (fl.volume + 1) f.new.files) (opened_ends fl) with_label
-    opened = label_grown f.new fl mid l (label l (pos (fl.volume + 1))) f.at sure f.label_same refl range with_label label_is
+    opened = label_grown f.new fl mid l (label l (pos (fl.volume + 1))) f.at sure (all_flushed m e fl mid f) f.label_same refl range with_label label_is
 
     opened_sure : IsVolumeSure (fl.volume + 1) with_label
-    opened_sure = volume_now f.new fl mid l (label l (pos (fl.volume + 1))) f.at sure f.label_same refl range with_label label_is
+    opened_sure = volume_now f.new fl mid l (label l (pos (fl.volume + 1))) f.at sure (all_flushed m e fl mid f) f.label_same refl range with_label label_is
 
     abbrev op : Ends
     op = opened_ends fl
@@ -147,7 +145,7 @@ module _ (m : Meant) (e : Ends) (held : Holdings) (at : IsAt m e held) (low : e.
     switch_ahead : (new : Holdings) × IsReady m e (switched_ends e) true new
     switch_ahead = (
       led.0,
-      switched_ready m l e fl mid refl f same_volume op with_label opened refl refl (put_greatest (due_at (all_counted e)) (all_counted e)) (switched_ends e) led.0 (put_volume (switch_at op) op) (few_acknowledged m e.volume held at.stands) led.1,
+      switched_ready m l e fl mid refl f same_volume op with_label opened refl refl (switched_ends e) led.0 (put_volume (switch_at op) op) (put_greatest (switch_at op) op) (few_acknowledged m e.volume held at.stands) led.1,
     )
 
 pub ready_ahead : (m : Meant) (e : Ends) (held : Holdings) (b : Bool) → IsAt m e held → e.volume < 2147483648 → (b ≡ true → e.volume + 1 < 2147483648) → (new : Holdings) × IsReady m e (ready_ends b e) b new
@@ -189,9 +187,9 @@ module _ (m : Meant) (e : Ends) (held : Holdings) (limit : ℕ) (run : Run) (gro
 
   grown : GrownTo ready.new may.records [] (samples_of group) (with_run start.volume run.records run.items ready.new.files) (after_run e run) with_items
   grown = (
-    run_grown ready.new start begun with_records may.records (samples_of group) run.records run.items ready.at may.come first with_items second,
+    run_grown ready.new start begun with_records may.records (samples_of group) run.records run.items ready.at may.come first with_items second run.stamp,
     run_ends ready.new start begun with_records may.records (samples_of group) run.records run.items ready.at may.come first with_items second run.stamp run.count (shown_count (start.logged + run.count)) may.last (first_many group r.count_is) refl,
   )
 
   pub run_ahead : (new : Holdings) × RunWritten m e after limit (run ∷ []) group now new
-  run_ahead = (with_items, subst (λ (x : Ends). RunWritten m e x limit (run ∷ []) group now with_items) (sym r.after_is) (run_written m e start held begun limit run group now after at r enough refl ready (after_run e run) with_items refl grown))
+  run_ahead = (with_items, subst (λ (x : Ends). RunWritten m e x limit (run ∷ []) group now with_items) (sym r.after_is) (run_written m e start held begun limit run group now after at r enough refl ready (after_run e run) with_items refl refl grown))

@@ -51,10 +51,11 @@ module _ (m : Meant) (number : ℕ) (held : Holdings) (at : Stands m number held
     labelled = still_labelled k.labelled;
     points = λ was. each-map (PointsSurely m.files held number) (PointsSurely m.files sure number) still_points m.contents.entries (k.points was);
     items = more_sure (length (items_of k.last.before)) k.last.whole.payloads (length (held (Volume number)).sure) (length (sure (Volume number)).sure) m.acknowledged (grows (Volume number)) k.items;
+    earlier = k.earlier;
   }
 
   pub sure_stands : Stands m number sure
-  sure_stands = record { keeps = sure_keeps; written = λ g. append-nil (m.files g); sure = refl; indexed = omega (arith, at.indexed, grows Index) }
+  sure_stands = record { keeps = sure_keeps; written = λ g. append-nil (m.files g); sure = refl; indexed = omega (arith, at.indexed, grows Index); headed = omega (arith, at.headed, grows (Volume number)) }
 
 pub sure_at : (m : Meant) (e : Ends) (held : Holdings) → IsAt m e held → IsAt m e (all_sure m.files)
 sure_at m e held at = record { stands = sure_stands m e.volume held at.stands; ends = at.ends }

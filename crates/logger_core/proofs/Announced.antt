@@ -79,6 +79,7 @@ module _ (s : Start) (files : Files) (c : ArchiveContents) (number known acknowl
       labelled = k.labelled;
       points = λ was. each-map (PointsSurely files held number) (PointsSurely (with_added (Volume number) (frame payload) files) held number) still_pointed c.entries (k.points was);
       items = still_sure k.items;
+      earlier = k.earlier;
     };
   }
 
@@ -151,6 +152,7 @@ module _ (s : Start) (files : Files) (c : ArchiveContents) (number acknowledged 
       labelled = k.labelled;
       points = λ was. each-map (PointsSurely files held number) (PointsSurely (with_added Meta (frames payloads) files) held number) (λ e p. record { meta = p.meta; offset = p.offset; below = p.below }) c.entries (k.points was);
       items = k.items;
+      earlier = k.earlier;
     };
   }
 
@@ -218,5 +220,6 @@ module _ (s : Start) (files : Files) (c : ArchiveContents) (number known acknowl
       points = λ was. each-append (PointsSurely (with_added Index (entry e) files) held number) c.entries (e ∷ [])
           (each-map (PointsSurely files held number) (PointsSurely (with_added Index (entry e) files) held number) (λ f p. record { meta = p.meta; offset = p.offset; below = p.below }) c.entries (k.points was)) (points_surely, tt);
       items = k.items;
+      earlier = k.earlier;
     };
   }

@@ -1,102 +1,33 @@
 -- What recovery told is what a logger keeps of the archive that it left.
-use Rattle.std.proofs.Common.{zero, suc, pos, true, false, ◌==◌, ◌-◌, take, ◌≡◌, ◌⊎◌, inl, inr, ⊎_elim, ℕ, ℤ, ◌+◌, ◌*◌, ◌<◌, ◌≤◌, negsuc, List, [], ◌∷◌, ◌++◌, length, Option, None, Some, refl, sym, ap, ◌∙◌, subst, arith, length-append}
-use Rattle.std.specs.Prelude.{Contains, slice_get}
-use Rattle.std.specs.List.{AllByRecursion}
+use Rattle.std.proofs.Common.{zero, suc, pos, true, false, ◌==◌, ◌-◌, take, ◌≡◌, ⊎_elim, ℕ, ◌+◌, ◌*◌, ◌<◌, ◌≤◌, negsuc, List, [], ◌∷◌, ◌++◌, length, Some, refl, sym, ap, ◌∙◌, subst, arith, length-append}
+use Rattle.std.specs.Prelude.{slice_get}
 use Rattle.std.proofs.Math.Seq.{take-nil}
 use Rattle.std.proofs.lemmas.Bool.{cases_lt}
 use Rattle.std.proofs.lemmas.Option.{none-some, same_Some}
-use Rattle.pcp_base.specs.Time.{Moment, microseconds}
 use Rattle.pcp_base.specs.declared.file.FileId.{FileId}
 use Rattle.pcp_base.specs.declared.file.FileId.TheVariants.{Meta, Index, Volume}
-use Rattle.pcp_base.specs.declared.result.Item.{Item}
 use Rattle.pcp_model.specs.declared.records.Entry.{Entry}
-use Rattle.pcp_model.specs.declared.records.MetaRecord.{MetaRecord}
-use Rattle.pcp_model.specs.declared.records.MetaRecord.TheVariants.{Description, Domain, Other}
-use Rattle.pcp_model.specs.Archive.{ArchiveContents, ArchiveReading, HasEntries, Reads, items_of}
+use Rattle.pcp_model.specs.Archive.{ArchiveContents, ArchiveReading, HasEntries, Reads}
 use Rattle.pcp_model.specs.Disk.{Files, Holdings, CrashImage, bytes_of, contents_of}
-use Rattle.pcp_model.specs.Payload.{IsItem, stamp_of}
+use Rattle.pcp_model.specs.Payload.{IsItem}
 use Rattle.pcp_model.specs.Records.{entries}
 use Rattle.pcp_model.specs.Recovered.{Recovers, recovered_contents, recovered_reading}
-use Rattle.pcp_model.specs.Sound.{NoItemAfter, NoDomainAfter}
 use Rattle.pcp_model.proofs.Cuts.{length_of_label}
 use Rattle.pcp_model.proofs.CutsOfAny.{length-entries}
-use Rattle.pcp_model.proofs.Lists.{each-split}
 use Rattle.pcp_model.proofs.OneReading.{entries_long}
 use Rattle.pcp_model.proofs.Sound.{labelled_long}
 use Rattle.archive_recovery.specs.declared.outcome.Archive.{Archive}
-use Rattle.archive_recovery.specs.Stamps.{domain_stamps, item_stamps, IsLatest}
 use Rattle.archive_recovery.specs.Told.{IsTold, IsToldOf}
 use Rattle.logger_core.specs.Laws.{IsWhole}
 use Rattle.logger_core.specs.declared.ends.Ends.{Ends}
 use Rattle.logger_core.specs.Meant.{Stands, AreEnds, IsAt, Kept}
 use Rattle.logger_core.specs.Reopening.{IsLeft, IsReopened, SameFiles, as_found, ends_of}
-use Rattle.logger_core.specs.Steps.{IsGreatest, last_entry}
+use Rattle.logger_core.specs.Steps.{greatest_in, last_entry}
+use Rattle.logger_core.proofs.Greatest.{greatest_above, greatest_found, greatest_in_is, greatest_timely, latest_is_greatest}
 use Rattle.logger_core.proofs.Items.{above_empty}
 use Rattle.logger_core.proofs.Reopened.{recovered_whole}
 use Rattle.logger_core.proofs.Rests.{sure_from}
-use Rattle.logger_core.proofs.Whole.{whole_is_kept, next_contains}
-
--- ---- the latest stamp
-
-in_either : {X : Type 0} (xs ys : List X) (x : X) → Contains (xs ++ ys) x → Contains xs x ⊎ Contains ys x
-in_either [] ys x has = inr has
-in_either (y ∷ xs) ys x (zero, low, is) = inl (0, omega arith, is)
-in_either (y ∷ xs) ys x (suc k, low, is) = ⊎_elim (λ (l : Contains xs x). inl (next_contains y xs x l)) (λ (r : Contains ys x). inr r) (in_either xs ys x (k, omega (arith, low), is))
-
--- a stamp of a list is of one of its records or items
-of_domain : (records : List MetaRecord) (t : Moment) → Contains (domain_stamps records) t → (indom : ℕ) × (pairs : List (ℤ × List ℕ)) × Contains records (Domain t indom pairs)
-of_domain [] t has = absurd (omega (arith, has.1))
-of_domain (Description d names ∷ rs) t has = let r = of_domain rs t has in (r.0, r.1, next_contains (Description d names) rs (Domain t r.0 r.1) r.2)
-of_domain (Domain s indom pairs ∷ rs) t (zero, low, is) = (indom, pairs, (0, omega arith, ap (λ m. Domain m indom pairs) is))
-of_domain (Domain s indom pairs ∷ rs) t (suc k, low, is) = let r = of_domain rs t (k, omega (arith, low), is) in (r.0, r.1, next_contains (Domain s indom pairs) rs (Domain t r.0 r.1) r.2)
-of_domain (Other ∷ rs) t has = let r = of_domain rs t has in (r.0, r.1, next_contains Other rs (Domain t r.0 r.1) r.2)
-
-of_item : (items : List Item) (t : Moment) → Contains (item_stamps items) t → (x : Item) × Contains items x × (stamp_of x ≡ t)
-of_item [] t has = absurd (omega (arith, has.1))
-of_item (x ∷ xs) t (zero, low, is) = (x, (0, omega arith, refl), is)
-of_item (x ∷ xs) t (suc k, low, is) = let r = of_item xs t (k, omega (arith, low), is) in (r.0, next_contains x xs r.0 r.1, r.2)
-
--- where a record or an item has one, the list isn't empty
-abbrev IsDomain : MetaRecord → Type 0
-IsDomain (Description d names) = ⊥
-IsDomain (Domain t indom pairs) = Unit {0}
-IsDomain Other = ⊥
-
-some_domain : (records : List MetaRecord) (t : Moment) (indom : ℕ) (pairs : List (ℤ × List ℕ)) → Contains records (Domain t indom pairs) → 0 < length (domain_stamps records)
-some_domain [] t indom pairs has = absurd (omega (arith, has.1))
-some_domain (Description d names ∷ rs) t indom pairs (zero, low, is) = absurd (subst IsDomain (sym is) tt)
-some_domain (Description d names ∷ rs) t indom pairs (suc k, low, is) = some_domain rs t indom pairs (k, omega (arith, low), is)
-some_domain (Domain s i p ∷ rs) t indom pairs has = omega arith
-some_domain (Other ∷ rs) t indom pairs (zero, low, is) = absurd (subst IsDomain (sym is) tt)
-some_domain (Other ∷ rs) t indom pairs (suc k, low, is) = some_domain rs t indom pairs (k, omega (arith, low), is)
-
-some_item : (items : List Item) (x : Item) → Contains items x → 0 < length (item_stamps items)
-some_item [] x has = absurd (omega (arith, has.1))
-some_item (y ∷ ys) x has = omega arith
-
--- none of a list is later
-no_domain : (records : List MetaRecord) (t : Moment) → AllByRecursion (λ (s : Moment). microseconds s ≤ microseconds t) (domain_stamps records) → NoDomainAfter t records
-no_domain [] t all = tt
-no_domain (Description d names ∷ rs) t all = (tt, no_domain rs t all)
-no_domain (Domain s indom pairs ∷ rs) t all = (all.0, no_domain rs t all.1)
-no_domain (Other ∷ rs) t all = (tt, no_domain rs t all)
-
-no_item : (items : List Item) (t : Moment) → AllByRecursion (λ (s : Moment). microseconds s ≤ microseconds t) (item_stamps items) → NoItemAfter t items
-no_item [] t all = tt
-no_item (x ∷ xs) t all = (all.0, no_item xs t all.1)
-
-greatest_is : (c : ArchiveContents) (o : Option Moment) → IsLatest (domain_stamps c.records ++ item_stamps (items_of c.volumes)) o → IsGreatest c o
-greatest_is c None none = λ t stamp. elim stamp [
-  | inl item ↦ absurd (omega (arith, some_item (items_of c.volumes) item.0 item.1, ap length none, length-append (domain_stamps c.records) (item_stamps (items_of c.volumes))))
-  | inr domain ↦ absurd (omega (arith, some_domain c.records t domain.0 domain.1 domain.2, ap length none, length-append (domain_stamps c.records) (item_stamps (items_of c.volumes))))
-]
-greatest_is c (Some t) latest =
-    let by = each-split (λ (s : Moment). microseconds s ≤ microseconds t) (domain_stamps c.records) (item_stamps (items_of c.volumes)) latest.1 in (
-      ⊎_elim (λ (d : Contains (domain_stamps c.records) t). inr (of_domain c.records t d)) (λ (i : Contains (item_stamps (items_of c.volumes)) t). inl (of_item (items_of c.volumes) t i))
-          (in_either (domain_stamps c.records) (item_stamps (items_of c.volumes)) t latest.0),
-      no_item (items_of c.volumes) t by.1,
-      no_domain c.records t by.0,
-    )
+use Rattle.logger_core.proofs.Whole.{whole_is_kept}
 
 -- ---- the last entry
 
@@ -141,8 +72,11 @@ module _ (held : Holdings) (a : Archive) (limit : ℕ) (kept : Kept) (few : a.it
     index_sure : 132 ≤ length (held Index).sure
     index_sure = omega (arith, entries_long (left Index) d w.indexed.0, ap length (sure Index), length-append (held Index).sure (held Index).rest)
 
+    volume_sure : 132 ≤ length (held (Volume number)).sure
+    volume_sure = omega (arith, volume_long, ap length (sure (Volume number)), length-append (held (Volume number)).sure (held (Volume number)).rest)
+
     stands : Stands (as_found left d) a.volume held
-    stands = subst (λ (n : ℕ). Stands (as_found left d) n held) same_volume record { keeps = whole_is_kept left d number held w; written = λ file. refl; sure = sure Meta; indexed = index_sure }
+    stands = subst (λ (n : ℕ). Stands (as_found left d) n held) same_volume record { keeps = whole_is_kept left d number held w; written = λ file. refl; sure = sure Meta; indexed = index_sure; headed = volume_sure }
 
     index_is : 132 + 20 * length a.index ≡ length (left Index)
     index_is =
@@ -154,7 +88,10 @@ module _ (held : Holdings) (a : Archive) (limit : ℕ) (kept : Kept) (few : a.it
       meta = told.meta_ends;
       index = index_is;
       length_is = told.volume_ends;
-      greatest = greatest_is d a.last told.latest;
+      greatest = greatest_found left d w.is a.last (latest_is_greatest d a.last told.latest);
+      moment = greatest_timely left d w.is (greatest_in d) (greatest_in_is d);
+      above = greatest_above d (greatest_in d) (greatest_in_is d);
+      found = λ none. greatest_in_is d;
       entry = ap last_entry told.entries;
       logged = omega (arith, told.counted, few);
       acknowledged_is = omega (arith, told.counted, few);

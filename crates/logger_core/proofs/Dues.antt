@@ -1,5 +1,5 @@
 -- The entry of a flush, where one is due.
-use Rattle.std.proofs.Common.{◌≡◌, ℕ, zero, suc, ◌+◌, ◌<◌, Bool, true, false, ◌&&◌, nat_lt, if◌then◌else◌, Option, Some, None, List, [], ◌∷◌, ◌++◌, refl, sym, ap, ◌∙◌, arith, cond}
+use Rattle.std.proofs.Common.{◌≡◌, ℕ, zero, suc, ◌+◌, ◌<◌, Bool, true, false, ◌&&◌, ◌||◌, nat_lt, if◌then◌else◌, Option, Some, None, List, [], ◌∷◌, ◌++◌, refl, sym, ap, ◌∙◌, arith}
 use Rattle.std.proofs.lemmas.Bool.{ltb-true, lt-ltb, and_parts}
 use Rattle.pcp_base.specs.Time.{Moment}
 use Rattle.pcp_model.specs.declared.records.Entry.{Entry}
@@ -26,10 +26,9 @@ behind_is : (last o : Option Entry) (x : Entry) → where_behind last o ≡ Some
 behind_is last None x is = is
 behind_is last (Some e) x is = ap (λ (y : Entry). Some y) (sym (if_some (is_behind last e) e x is).1)
 
-pub record Due (g : Option Moment) (items size volume meta offset : ℕ) (x : Entry) : Type 0 where
+pub record Due (g : Option Moment) (size volume meta offset : ℕ) (x : Entry) : Type 0 where
   pub t : Moment
   pub stamped : g ≡ Some t
-  pub some : 0 < items
   pub is : x ≡ up_to t volume meta offset
   pub room : size + 20 < 2147483648
   pub meta_small : meta < 2147483648
@@ -39,21 +38,24 @@ if_due : (b : Bool) (o : Option Entry) (x : Entry) → (if b then o else None) �
 if_due true o x is = (refl, is)
 if_due false o x is = absurd cc
 
-pub due_is : (g : Option Moment) (items : ℕ) (last : Option Entry) (size volume meta offset : ℕ) (x : Entry) → due g items last size volume meta offset ≡ Some x → Due g items size volume meta offset x
-due_is None items last size volume meta offset x is = absurd cc
-due_is (Some t) items last size volume meta offset x is =
-    let both = if_due (nat_lt 0 items) (where_behind last (fitting size (up_to t volume meta offset))) x is in
+pub due_is : (g : Option Moment) (stood : Bool) (last : Option Entry) (size volume meta offset : ℕ) (x : Entry) → due g stood last size volume meta offset ≡ Some x → Due g size volume meta offset x
+due_is None stood last size volume meta offset x is = absurd cc
+due_is (Some t) stood last size volume meta offset x is =
+    let both = if_due stood (where_behind last (fitting size (up_to t volume meta offset))) x is in
     let fits = fitting_is size (up_to t volume meta offset) x (behind_is last (fitting size (up_to t volume meta offset)) x both.1) in
-    record { t = t; stamped = refl; some = ltb-true 0 items both.0; is = fits.0; room = fits.1; meta_small = fits.2; offset_small = fits.3 }
+    record { t = t; stamped = refl; is = fits.0; room = fits.1; meta_small = fits.2; offset_small = fits.3 }
 
--- of the number of items it matters alone whether there is one
-some_capped : (n : ℕ) → nat_lt 0 (shown_count n) ≡ nat_lt 0 n
+-- of a count it matters alone whether there is one
+pub some_capped : (n : ℕ) → nat_lt 0 (shown_count n) ≡ nat_lt 0 n
 some_capped zero = refl
 some_capped (suc n) = lt-ltb 0 (shown_count (suc n)) (omega arith) ∙ sym (lt-ltb 0 (suc n) (omega arith))
 
-pub due_capped : (g : Option Moment) (n : ℕ) (last : Option Entry) (size volume meta offset : ℕ) → due g (shown_count n) last size volume meta offset ≡ due g n last size volume meta offset
-due_capped None n last size volume meta offset = refl
-due_capped (Some t) n last size volume meta offset = ap (λ b. cond b (where_behind last (fitting size (up_to t volume meta offset))) None) (some_capped n)
+-- of two counts together there is one where one of them has one
+pub some_of : (a b : ℕ) → nat_lt 0 (a + b) ≡ (nat_lt 0 a || nat_lt 0 b)
+some_of zero b =
+    let none : zero + b ≡ b = omega arith in
+    ap (nat_lt 0) none
+some_of (suc a) b = lt-ltb 0 (suc a + b) (omega arith) ∙ ap (λ (x : Bool). x || nat_lt 0 b) (sym (lt-ltb 0 (suc a) (omega arith)))
 
 -- ---- what holds of an entry holds of one that may be missing
 

@@ -287,7 +287,7 @@ judge_leaves m old now group held k DiskFault l h = absurd h
 pub one_is_logged : (m : Meant) (old now : Kept) (answer : PmResult) (facts : Facts) (held : Holdings) → AreLogged m old now ((answer, facts) ∷ []) held → IsLogged m old now answer facts held
 one_is_logged m old now answer facts held a =
     let one : LogsOne m old.ends.volume old.limit answer facts a.new a.all.1 = subst (λ (n : Meant). LogsOne m old.ends.volume old.limit answer facts n a.all.1) (sym a.all.3.0) a.all.2 in
-    record { new = a.new; started = one.started; step = one.step; said = one.longer.records; items_are = one.longer.items; still = one.still; acknowledged_is = one.acknowledged_is; is = a.is }
+    record { new = a.new; started = one.started; gone_is = one.gone_is; greatest_is = one.greatest_is; step = one.step; said = one.longer.records; items_are = one.longer.items; still = one.still; acknowledged_is = one.acknowledged_is; is = a.is }
 
 -- ---- what was judged, as a logger keeps it
 

@@ -1,6 +1,8 @@
 -- Results that are held: each one more is a run of its own, or joins the last.
 use Rattle.std.proofs.Common.{suc, ◌≡◌, ℕ, ◌+◌, ◌<◌, ◌≤◌, Bool, List, [], ◌∷◌, ◌++◌, length, refl, sym, ap, ◌∙◌, subst, arith}
 use Rattle.std.proofs.lemmas.List.{append-nil}
+use Rattle.std.specs.Prelude.{Option}
+use Rattle.pcp_base.specs.Time.{Moment}
 use Rattle.pcp_base.specs.declared.file.FileId.{FileId}
 use Rattle.pcp_base.specs.declared.file.FileId.TheVariants.{Meta, Volume}
 use Rattle.pcp_base.specs.declared.result.Item.TheVariants.{Sample}
@@ -19,12 +21,12 @@ use Rattle.logger_core.specs.declared.preparing.Made.{Made}
 use Rattle.logger_core.specs.Going.{AreSmall}
 use Rattle.logger_core.specs.Grouping.{Told, LogsOne, LogsAll, AreAllEnough, AreLoggable, samples_of}
 use Rattle.logger_core.specs.Held.{IsBase, Grown, MayRun, IsRunOf, IsRunBounded, run_of, after_run}
-use Rattle.logger_core.specs.Logging.{IsMadeOf}
+use Rattle.logger_core.specs.Logging.{IsLater, IsMadeOf}
 use Rattle.logger_core.specs.LogSteps.{base_files, base_number, crosses, with_run}
-use Rattle.logger_core.specs.Meant.{Meant, AreEnds}
+use Rattle.logger_core.specs.Meant.{Meant, AreEnds, stood_in}
 use Rattle.logger_core.specs.Planning.{planned_ends, ready_ends}
 use Rattle.logger_core.specs.Writing.{IsBounded, MayBeWritten}
-use Rattle.logger_core.proofs.Loggable.{run_of as made_run, last_of as made_last, after_is, run_moved, last_moved}
+use Rattle.logger_core.proofs.Loggable.{run_of as made_run, last_of as made_last, after_is, entries_before, run_moved, last_moved}
 use Rattle.logger_core.proofs.Planned.{ready_volume, run_small, run_bounded}
 use Rattle.logger_core.proofs.Pointwise.{added_same}
 use Rattle.logger_core.proofs.Refused.{bounded, loggable}
@@ -51,9 +53,9 @@ logs_then m n o a b c limit (x ∷ xs) ys first second = (first.0, first.1, firs
 -- ---- one result
 
 module _ (m n o : Meant) (e : Ends) (limit : ℕ) (answer : PmResult) (facts : Facts) (now : List MetaRecord) (made : Made) (ends : AreEnds m e) (w : MayBeWritten m e limit answer facts now made) (base : IsBase m e made.crossing n)
-    (g : Grown n w.is.metadata.missing (Sample answer ∷ []) (with_run (ready_ends made.crossing e).volume made.records made.item n.files) o) where
+    (g : Grown n w.is.metadata.missing (Sample answer ∷ []) answer.stamp (with_run (ready_ends made.crossing e).volume made.records made.item n.files) o) where
   abbrev base_is : Files
-  base_is = base_files made.crossing m.files m.contents e.volume e.greatest
+  base_is = base_files made.crossing m.files m.contents e.volume m.greatest (stood_in m)
 
   files_now : (file : FileId) → o.files file ≡ with_run (base_number made.crossing e.volume) (framed_records w.is.metadata.missing) (frame (payload answer)) base_is file
   files_now file =
@@ -67,9 +69,9 @@ module _ (m n o : Meant) (e : Ends) (limit : ℕ) (answer : PmResult) (facts : F
   pub logs_one : LogsOne m e.volume limit answer facts o (ready_ends made.crossing e).volume
   logs_one = record {
     started = g.started ∙ base.started;
+    gone_is = g.gone_is ∙ base.gone_is;
+    greatest_is = g.greatest_is;
     step = record {
-      greatest = e.greatest;
-      is_greatest = ends.greatest;
       missing = w.is.metadata.missing;
       needed = w.is.metadata.needed;
       crossing = made.crossing;
@@ -109,10 +111,11 @@ module _ (records : List MetaRecord) (e : Ends) (limit : ℕ) (g : Told) (now : 
       → MayRun m n e.volume (ready_ends made.crossing e).volume limit (run_of made g.0.stamp) (g ∷ []) now
   one_may some m n ends same enough base there =
       let w : MayBeWritten m e limit g.0 g.1 now made = may_write m same some enough in
+      let later : IsLater n.greatest g.0.stamp = subst (λ (o : Option Moment). IsLater o g.0.stamp) (ends.greatest ∙ sym base.greatest_is) is.later in
       record {
         records = w.is.metadata.missing;
         come = run_moved m n base.started base.records_same base.items_same w.is.metadata.missing (Sample g.0 ∷ []) made.records made.item (made_run m e limit g.0 g.1 now made ends w);
-        last = last_moved m n base.started base.records_same base.items_same w.is.metadata.missing (Sample g.0 ∷ []) g.0.stamp (made_last m e limit g.0 g.1 now made ends w);
+        last = last_moved m n base.started base.records_same base.items_same w.is.metadata.missing (Sample g.0 ∷ []) g.0.stamp (entries_before n.contents n.greatest g.0.stamp there.above later) (made_last m e limit g.0 g.1 now made ends w);
         now_is = after_is m e limit g.0 g.1 now made ends w ∙ ap (λ rs. rs ++ w.is.metadata.missing) (sym base.records_same);
         all = λ o grown. (o, (ready_ends made.crossing e).volume, logs_one m n o e limit g.0 g.1 now made ends w base grown, (refl, refl));
       }

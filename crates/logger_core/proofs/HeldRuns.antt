@@ -99,10 +99,10 @@ module _ (records : List MetaRecord) (e : Ends) (limit : ℕ) (run : Run) (group
     was = r.may m n ends same both.0 base there
 
     abbrev v : Meant
-    v = behind n was.records (samples_of group) start.volume run.records run.items
+    v = behind n was.records (samples_of group) run.stamp start.volume run.records run.items
 
-    v_grown : Grown n was.records (samples_of group) (with_run start.volume run.records run.items n.files) v
-    v_grown = behind_grown n was.records (samples_of group) start.volume run.records run.items
+    v_grown : Grown n was.records (samples_of group) run.stamp (with_run start.volume run.records run.items n.files) v
+    v_grown = behind_grown n was.records (samples_of group) run.stamp start.volume run.records run.items
 
     v_ends : AreEnds v at
     v_ends = subst (AreEnds v) (sym r.after_is) (grown_ends n start was.records (samples_of group) run.records run.items run.stamp run.count v there was.last (samples_many group ∙ sym r.count_is) v_grown)
@@ -120,16 +120,18 @@ module _ (records : List MetaRecord) (e : Ends) (limit : ℕ) (run : Run) (group
     all_come = run_joined n v was.records w.is.metadata.missing (samples_of group) (Sample g.0 ∷ []) v_grown.longer.records v_grown.longer.items run.records made.records run.items made.item was.come (made_run v at limit g.0 g.1 now made v_ends w)
 
     last_stamp : IsLastStamp n (was.records ++ w.is.metadata.missing) (samples_of group ++ Sample g.0 ∷ []) g.0.stamp
-    last_stamp = last_joined n v was.records w.is.metadata.missing (samples_of group) (Sample g.0 ∷ []) v_grown.longer.records v_grown.longer.items g.0.stamp (made_last v at limit g.0 g.1 now made v_ends w)
+    last_stamp = last_joined n v was.records w.is.metadata.missing (samples_of group) (Sample g.0 ∷ []) v_grown.longer.records v_grown.longer.items g.0.stamp refl (made_last v at limit g.0 g.1 now made v_ends w)
 
     same_next : (ready_ends made.crossing at).volume ≡ start.volume
     same_next = ap (λ (b : Bool). (ready_ends b at).volume) stays ∙ ap (λ (x : Ends). x.volume) r.after_is
 
-    from_v : (o : Meant) → Grown n (was.records ++ w.is.metadata.missing) (samples_of group ++ Sample g.0 ∷ []) (with_run start.volume longer.records longer.items n.files) o
-        → Grown v w.is.metadata.missing (Sample g.0 ∷ []) (with_run (ready_ends made.crossing at).volume made.records made.item v.files) o
+    from_v : (o : Meant) → Grown n (was.records ++ w.is.metadata.missing) (samples_of group ++ Sample g.0 ∷ []) g.0.stamp (with_run start.volume longer.records longer.items n.files) o
+        → Grown v w.is.metadata.missing (Sample g.0 ∷ []) g.0.stamp (with_run (ready_ends made.crossing at).volume made.records made.item v.files) o
     from_v o grown = record {
       started = grown.started;
       acknowledged_is = grown.acknowledged_is;
+      gone_is = grown.gone_is;
+      greatest_is = grown.greatest_is;
       longer = record {
         label = grown.longer.label;
         records = grown.longer.records ∙ sym (append_assoc n.contents.records was.records w.is.metadata.missing);
@@ -139,7 +141,7 @@ module _ (records : List MetaRecord) (e : Ends) (limit : ℕ) (run : Run) (group
       files_are = λ file. grown.files_are file ∙ sym (run_twice start.volume run.records made.records run.items made.item n.files file) ∙ ap (λ (k : ℕ). with_run k made.records made.item v.files file) (sym same_next);
     }
 
-    all_logged : (o : Meant) → Grown n (was.records ++ w.is.metadata.missing) (samples_of group ++ Sample g.0 ∷ []) (with_run start.volume longer.records longer.items n.files) o → LogsAll m e.volume limit (group ++ g ∷ []) o start.volume
+    all_logged : (o : Meant) → Grown n (was.records ++ w.is.metadata.missing) (samples_of group ++ Sample g.0 ∷ []) g.0.stamp (with_run start.volume longer.records longer.items n.files) o → LogsAll m e.volume limit (group ++ g ∷ []) o start.volume
     all_logged o grown =
         let one : LogsOne v at.volume limit g.0 g.1 o (ready_ends made.crossing at).volume = logs_one v v o at limit g.0 g.1 now made v_ends w v_base (from_v o grown) in
         let at_next : at.volume ≡ start.volume = ap (λ (x : Ends). x.volume) r.after_is in
@@ -155,7 +157,7 @@ module _ (records : List MetaRecord) (e : Ends) (limit : ℕ) (run : Run) (group
       come = subst (λ xs. IsRunToCome n (was.records ++ w.is.metadata.missing) xs longer.records longer.items) (sym samples_are) all_come;
       last = subst (λ xs. IsLastStamp n (was.records ++ w.is.metadata.missing) xs g.0.stamp) (sym samples_are) last_stamp;
       now_is = now_behind;
-      all = λ o grown. all_logged o (subst (λ xs. Grown n (was.records ++ w.is.metadata.missing) xs (with_run start.volume longer.records longer.items n.files) o) samples_are grown);
+      all = λ o grown. all_logged o (subst (λ xs. Grown n (was.records ++ w.is.metadata.missing) xs g.0.stamp (with_run start.volume longer.records longer.items n.files) o) samples_are grown);
     }
 
   pub longer_run : IsRunOf records e limit longer (group ++ g ∷ []) now (after_run at (run_of made g.0.stamp))

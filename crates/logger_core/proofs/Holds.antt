@@ -1,6 +1,6 @@
 -- A logger that holds results: one more of them, and all of them written.
 use Rattle.std.proofs.Common.{◌≡◌, ℕ, ◌+◌, ◌<◌, ◌≤◌, Bool, true, false, List, [], ◌∷◌, ◌++◌, length, refl, sym, ap, ◌∙◌, subst, append_assoc, arith, length-append}
-use Rattle.std.specs.Prelude.{if◌then◌else◌, Result, Ok, Err, OnErr, OnOk, IfErr}
+use Rattle.std.specs.Prelude.{if◌then◌else◌, Option, Result, Ok, Err, OnErr, OnOk, IfErr}
 use Rattle.std.proofs.Math.Path.{fun_ext}
 use Rattle.std.proofs.lemmas.List.{append-nil}
 use Rattle.pcp_base.specs.Time.{Moment}
@@ -45,6 +45,7 @@ holds_nothing m b held l none planned = record {
   enough = tt;
   all = (refl, ap (λ (x : Ends). x.volume) planned);
   started = refl;
+  gone_is = refl;
   label_same = refl;
   records_are = l.records_are;
   items_are = sym (append-nil (items_in m));
@@ -196,6 +197,7 @@ module _ (old now : Kept) (before after : Group) (answer : PmResult) (facts : Fa
         enough = each-append (λ (x : Told). AreEnough x.1 x.0.sets) pending (told ∷ []) p.enough (enough, tt);
         all = logs_then m o next old.ends.volume before.planned.volume after.planned.volume old.limit pending (told ∷ []) p.all w.all;
         started = w.started ∙ p.started;
+        gone_is = w.gone_is ∙ p.gone_is;
         label_same = w.label_same ∙ p.label_same;
         records_are = w.records_are;
         items_are = w.items_are ∙ ap (λ xs. xs ++ samples_of (told ∷ [])) p.items_are ∙ append_assoc (items_in m) (samples_of pending) (samples_of (told ∷ [])) ∙ ap (λ xs. items_in m ++ xs) (sym (samples_then pending (told ∷ [])));
@@ -263,12 +265,17 @@ module _ {E : Type 0} (r : Result (Unit {0}) E) (b : HeldBack) (now : Kept) (aft
 
 -- ---- all is written
 
-meant_is : (a b : Meant) → a.start ≡ b.start → a.files ≡ b.files → a.contents ≡ b.contents → a.acknowledged ≡ b.acknowledged → a ≡ b
-meant_is a b start files contents acknowledged =
-    ap (λ (x : Start). record { start = x; files = a.files; contents = a.contents; acknowledged = a.acknowledged }) start
-    ∙ ap (λ (x : Files). record { start = b.start; files = x; contents = a.contents; acknowledged = a.acknowledged }) files
-    ∙ ap (λ (x : ArchiveContents). record { start = b.start; files = b.files; contents = x; acknowledged = a.acknowledged }) contents
-    ∙ ap (λ (x : ℕ). record { start = b.start; files = b.files; contents = b.contents; acknowledged = x }) acknowledged
+abbrev meant : Start → Files → ArchiveContents → ℕ → ℕ → Option Moment → Meant
+meant start files contents acknowledged gone greatest = record { start = start; files = files; contents = contents; acknowledged = acknowledged; gone = gone; greatest = greatest }
+
+meant_is : (a b : Meant) → a.start ≡ b.start → a.files ≡ b.files → a.contents ≡ b.contents → a.acknowledged ≡ b.acknowledged → a.gone ≡ b.gone → a.greatest ≡ b.greatest → a ≡ b
+meant_is a b start files contents acknowledged gone greatest =
+    ap (λ (x : Start). meant x a.files a.contents a.acknowledged a.gone a.greatest) start
+    ∙ ap (λ (x : Files). meant b.start x a.contents a.acknowledged a.gone a.greatest) files
+    ∙ ap (λ (x : ArchiveContents). meant b.start b.files x a.acknowledged a.gone a.greatest) contents
+    ∙ ap (λ (x : ℕ). meant b.start b.files b.contents x a.gone a.greatest) acknowledged
+    ∙ ap (λ (x : ℕ). meant b.start b.files b.contents b.acknowledged x a.greatest) gone
+    ∙ ap (λ (x : Option Moment). meant b.start b.files b.contents b.acknowledged b.gone x) greatest
 
 module _ (m : Meant) (b : HeldBack) (pending : List Told) (o : Meant) (held new : Holdings) (h : IsHolding m b pending o held) (next : Ends) (next_is : next ≡ b.planned) (w : RunWritten m b.kept.ends next b.kept.limit b.runs pending b.kept.records new) where
   same_files : w.new.files ≡ o.files
@@ -279,7 +286,7 @@ module _ (m : Meant) (b : HeldBack) (pending : List Told) (o : Meant) (held new 
   is_there =
       meant_is w.new o (w.started ∙ sym h.started) same_files
       (one_contents o.files w.new.contents o.contents (subst (λ (f : Files). IsArchive f w.new.contents) same_files w.at.stands.keeps.is) h.stands.keeps.is)
-      (w.acknowledged_is ∙ sym h.acknowledged_is)
+      (w.acknowledged_is ∙ sym h.acknowledged_is) (w.gone_is ∙ sym h.gone_is) (sym w.at.ends.greatest ∙ ap (λ (x : Ends). x.greatest) next_is ∙ h.ends.greatest)
 
   there_at : IsAt o b.planned new
   there_at = subst (λ (x : Meant). IsAt x b.planned new) is_there (subst (λ (x : Ends). IsAt w.new x new) next_is w.at)

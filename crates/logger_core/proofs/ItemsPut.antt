@@ -87,9 +87,10 @@ module _ (m : Meant) (number : ℕ) (held : Holdings) (payloads : List (List ℕ
 
     pub items_grown : GrowsBy m [] [] items (with_added (Volume number) bytes m.files) number new
     items_grown = record {
-      new = record { start = m.start; files = said.files; contents = said.new; acknowledged = m.acknowledged };
+      new = record { start = m.start; files = said.files; contents = said.new; acknowledged = m.acknowledged; gone = m.gone; greatest = m.greatest };
       started = refl;
       acknowledged_is = refl;
+      gone_is = refl;
       longer = said.longer;
       files_are = λ file. said.same file ∙ ap (λ t. with_added (Volume number) t m.files file) (sym is);
       stands = record {
@@ -97,6 +98,7 @@ module _ (m : Meant) (number : ℕ) (held : Holdings) (payloads : List (List ℕ
         written = appended_written m.start m.files said.files said.new number (length said.new.records) m.acknowledged held (Volume number) (frames payloads) said.keeps refl at.written this others new change_is;
         sure = ap (λ (h : Held). h.rest) (change.others Meta refl) ∙ at.sure;
         indexed = omega (arith, at.indexed, ap (λ (h : Held). length h.sure) (change.others Index refl));
+        headed = omega (arith, at.headed, ap (λ (h : Held). length h.sure) change.this);
       };
     }
 

@@ -22,7 +22,10 @@ pub is_flushed : (m : Meant) (old : Kept) (after : Ends) (held new : Holdings) �
 is_flushed m old after held new l f = record {
   new = f.new;
   started = f.started;
-  step = record { greatest = old.ends.greatest; is_greatest = l.at.ends.greatest; is = f.files_are };
+  gone_is = f.gone_is;
+  greatest_is = f.greatest_is;
+  step = record { is = f.files_are };
+  entries_are = f.entries_are;
   items_same = f.items_same;
   all = f.all;
   is = record { at = f.at; label_is = f.label_same ∙ l.label_is; records_are = f.records_same ∙ l.records_are };
@@ -33,6 +36,8 @@ pub is_logged : (m : Meant) (old : Kept) (now : Ends) (records : List MetaRecord
 is_logged m old now records answer facts held new l w = record {
   new = w.new;
   started = w.started;
+  gone_is = w.gone_is;
+  greatest_is = w.greatest_is;
   step = w.step;
   said = w.said;
   items_are = w.items_are;

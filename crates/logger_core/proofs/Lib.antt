@@ -7,6 +7,7 @@ pub mod Begun
 pub mod Calls
 pub mod Dues
 pub mod EntryPut
+pub mod Greatest
 pub mod Grouped
 pub mod GroupLogged
 pub mod Growing

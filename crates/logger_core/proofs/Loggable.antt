@@ -1,5 +1,5 @@
 -- What was made of a result is a run that may be written, and what its writing leaves.
-use Rattle.std.proofs.Common.{◌≡◌, inl, inr, ℕ, ℤ, ◌+◌, ◌<◌, ◌≤◌, List, [], ◌∷◌, ◌++◌, take, map, Option, None, Some, refl, sym, ap, ◌∙◌, subst, arith}
+use Rattle.std.proofs.Common.{◌≡◌, inl, inr, ℕ, ℤ, ◌+◌, ◌<◌, ◌≤◌, List, [], ◌∷◌, ◌++◌, length, take, map, Option, None, Some, refl, sym, ap, ◌∙◌, subst, arith}
 use Rattle.std.specs.Prelude.{Contains, Result, Ok, Err, IfOk}
 use Rattle.std.specs.List.{AllByRecursion}
 use Rattle.std.proofs.lemmas.List.{append-nil}
@@ -33,10 +33,11 @@ use Rattle.logger_core.specs.Keeps.{Start}
 use Rattle.logger_core.specs.Laws.{AreRecordsToCome, IsRecordAfter, Survives}
 use Rattle.logger_core.specs.Logging.{IsLater}
 use Rattle.logger_core.specs.LogSteps.{base_files, base_number, with_run, crosses}
-use Rattle.logger_core.specs.Meant.{Meant, AreEnds, IsAt, SurvivesOf, items_in}
+use Rattle.logger_core.specs.Meant.{Meant, AreEnds, IsAt, SurvivesOf, items_in, stood_in}
 use Rattle.logger_core.specs.Going.{GrownTo}
 use Rattle.logger_core.specs.Runs.{Rise, IsRunToCome, IsLastStamp, IsReady, SurvivesWith}
-use Rattle.logger_core.specs.Steps.{IsGreatest}
+use Rattle.logger_core.specs.Planning.{ran_ends}
+use Rattle.logger_core.specs.Steps.{IsAbove, IsEntryBy, NoEntryAfter}
 use Rattle.logger_core.specs.Writing.{MayBeWritten, ItemWritten}
 use Rattle.logger_core.proofs.Pointwise.{added_same}
 use Rattle.logger_core.proofs.Rests.{survives_with, survives_same}
@@ -48,23 +49,27 @@ use Rattle.logger_core.proofs.Whole.{each_contained}
 abbrev IsBefore : Moment → Item → Type 0
 IsBefore t x = microseconds (stamp_of x) < microseconds t
 
-items_before : (c : ArchiveContents) (g : Option Moment) (t : Moment) → IsGreatest c g → IsLater g t → AllByRecursion (IsBefore t) (items_of c.volumes)
+items_before : (c : ArchiveContents) (g : Option Moment) (t : Moment) → IsAbove c g → IsLater g t → AllByRecursion (IsBefore t) (items_of c.volumes)
 items_before c None t none later = each-map (λ x. Contains (items_of c.volumes) x) (IsBefore t) (λ x there. absurd (none (stamp_of x) (inl (x, there, refl)))) (items_of c.volumes) (each_contained (items_of c.volumes))
-items_before c (Some last) t is later = each-map (IsItemBy last) (IsBefore t) (λ x by. omega (arith, by, later)) (items_of c.volumes) is.1
+items_before c (Some last) t is later = each-map (IsItemBy last) (IsBefore t) (λ x by. omega (arith, by, later)) (items_of c.volumes) is.0
 
 record_by : (last t : Moment) → microseconds last < microseconds t → (r : MetaRecord) → IsRecordBy last r → IsRecordBy t r
 record_by last t later (Description d names) by = tt
 record_by last t later (Domain s i pairs) by = omega (arith, by, later)
 record_by last t later Other by = tt
 
-no_record : (c : ArchiveContents) (t : Moment) → IsGreatest c None → (r : MetaRecord) → Contains c.records r → IsRecordBy t r
+no_record : (c : ArchiveContents) (t : Moment) → IsAbove c None → (r : MetaRecord) → Contains c.records r → IsRecordBy t r
 no_record c t none (Description d names) there = tt
-no_record c t none (Domain s i pairs) there = absurd (none s (inr (i, pairs, there)))
+no_record c t none (Domain s i pairs) there = absurd (none s (inr (inl (i, pairs, there))))
 no_record c t none Other there = tt
 
-domains_before : (c : ArchiveContents) (g : Option Moment) (t : Moment) → IsGreatest c g → IsLater g t → NoDomainAfter t c.records
+domains_before : (c : ArchiveContents) (g : Option Moment) (t : Moment) → IsAbove c g → IsLater g t → NoDomainAfter t c.records
 domains_before c None t none later = each-map (λ r. Contains c.records r) (IsRecordBy t) (no_record c t none) c.records (each_contained c.records)
-domains_before c (Some last) t is later = each-map (IsRecordBy last) (IsRecordBy t) (record_by last t later) c.records is.2
+domains_before c (Some last) t is later = each-map (IsRecordBy last) (IsRecordBy t) (record_by last t later) c.records is.1
+
+pub entries_before : (c : ArchiveContents) (g : Option Moment) (t : Moment) → IsAbove c g → IsLater g t → NoEntryAfter t c.entries
+entries_before c None t none later = each-map (λ e. Contains c.entries e) (IsEntryBy t) (λ e there. absurd (none e.stamp (inr (inr (e, there, refl))))) c.entries (each_contained c.entries)
+entries_before c (Some last) t is later = each-map (IsEntryBy last) (IsEntryBy t) (λ e by. omega (arith, by, later)) c.entries is.2
 
 -- ---- the records that are missing are descriptions, and domains from the result's moment on
 
@@ -90,8 +95,11 @@ module _ (m : Meant) (e : Ends) (limit : ℕ) (answer : PmResult) (facts : Facts
   abbrev missing : List MetaRecord
   missing = w.is.metadata.missing
 
+  above : IsAbove m.contents e.greatest
+  above = subst (IsAbove m.contents) (sym ends.greatest) ends.above
+
   before : AllByRecursion (IsBefore answer.stamp) (items_in m)
-  before = items_before m.contents e.greatest answer.stamp ends.greatest w.is.later
+  before = items_before m.contents e.greatest answer.stamp above w.is.later
 
   no_item_after : NoItemAfter answer.stamp (items_in m)
   no_item_after = each-map (IsBefore answer.stamp) (IsItemBy answer.stamp) (λ x lt. omega (arith, lt)) (items_in m) before
@@ -133,9 +141,11 @@ module _ (m : Meant) (e : Ends) (limit : ℕ) (answer : PmResult) (facts : Facts
     last = Sample answer;
     are = refl;
     stamped = refl;
+    moment = w.is.range.moment;
     before = each-append (IsItemBy answer.stamp) (items_in m) (Sample answer ∷ []) no_item_after (omega arith, tt);
-    domains = each-append (IsRecordBy answer.stamp) m.contents.records missing (domains_before m.contents e.greatest answer.stamp ends.greatest w.is.later)
+    domains = each-append (IsRecordBy answer.stamp) m.contents.records missing (domains_before m.contents e.greatest answer.stamp above w.is.later)
         (each_missing (IsRecordBy answer.stamp) (λ d names. tt) answer.stamp (λ i pairs. omega arith) m.contents.records facts answer missing refl w.is.metadata.needed);
+    entries = entries_before m.contents e.greatest answer.stamp above w.is.later;
   }
 
 -- ---- the same run behind an archive with the same records and items
@@ -161,14 +171,16 @@ module _ (m n : Meant) (same_start : n.start ≡ m.start) (same_records : n.cont
     rise = subst (λ xs. Rise xs items) (sym same_items) run.rise;
   }
 
-  pub last_moved : (t : Moment) → IsLastStamp m records items t → IsLastStamp n records items t
-  last_moved t last = record {
+  pub last_moved : (t : Moment) → NoEntryAfter t n.contents.entries → IsLastStamp m records items t → IsLastStamp n records items t
+  last_moved t entries last = record {
     first = last.first;
     last = last.last;
     are = last.are;
     stamped = last.stamped;
+    moment = last.moment;
     before = subst (λ xs. NoItemAfter t (xs ++ items)) (sym same_items) last.before;
     domains = subst (λ rs. NoDomainAfter t (rs ++ records)) (sym same_records) last.domains;
+    entries = entries;
   }
 
   pub survives_moved : (image : Files) → m.acknowledged ≤ n.acknowledged → SurvivesWith n items image → SurvivesWith m items image
@@ -182,9 +194,9 @@ survives_more m items image w = survives_with m.start (items_in m) items m.ackno
 -- ---- what is left
 
 module _ (m : Meant) (e start now : Ends) (held mid new : Holdings) (limit : ℕ) (answer : PmResult) (facts : Facts) (after : List MetaRecord) (made : Made) (at : IsAt m e held) (w : MayBeWritten m e limit answer facts after made) (ready : IsReady m e start made.crossing mid)
-    (g : GrownTo ready.new w.is.metadata.missing [] (Sample answer ∷ []) (with_run start.volume made.records made.item ready.new.files) now new) where
+    (g : GrownTo ready.new w.is.metadata.missing [] (Sample answer ∷ []) (with_run start.volume made.records made.item ready.new.files) now new) (stamped : now.greatest ≡ Some answer.stamp) where
   abbrev base : Files
-  base = base_files made.crossing m.files m.contents e.volume e.greatest
+  base = base_files made.crossing m.files m.contents e.volume m.greatest (stood_in m)
 
   files_now : (file : FileId) → g.0.new.files file ≡ with_run (base_number made.crossing e.volume) (framed_records w.is.metadata.missing) (frame (payload answer)) base file
   files_now file =
@@ -199,9 +211,9 @@ module _ (m : Meant) (e start now : Ends) (held mid new : Holdings) (limit : ℕ
   item_written = record {
     new = g.0.new;
     started = g.0.started ∙ ready.started;
+    gone_is = g.0.gone_is ∙ ready.gone_is;
+    greatest_is = sym g.1.greatest ∙ stamped;
     step = record {
-      greatest = e.greatest;
-      is_greatest = at.ends.greatest;
       missing = w.is.metadata.missing;
       needed = w.is.metadata.needed;
       crossing = made.crossing;
@@ -219,13 +231,13 @@ module _ (m : Meant) (e start now : Ends) (held mid new : Holdings) (limit : ℕ
 
 -- what a written run leaves, as a result
 pub item_ok : {E : Type 0} (m : Meant) (e start : Ends) (held mid new : Holdings) (limit : ℕ) (answer : PmResult) (facts : Facts) (after : List MetaRecord) (made : Made) (at : IsAt m e held) (w : MayBeWritten m e limit answer facts after made) (ready : IsReady m e start made.crossing mid) (result : Result Ends E)
-    (records item : List ℕ) → records ≡ made.records → item ≡ made.item
+    (records item : List ℕ) → records ≡ made.records → item ≡ made.item → IfOk result (λ now. now ≡ ran_ends (length records) (length item) 1 answer.stamp start)
     → IfOk result (λ now. GrownTo ready.new w.is.metadata.missing [] (Sample answer ∷ []) (with_run start.volume records item ready.new.files) now new) → IfOk result (λ now. ItemWritten m e now limit answer facts after new)
-item_ok m e start held mid new limit answer facts after made at w ready (Ok now) records item first second g =
+item_ok m e start held mid new limit answer facts after made at w ready (Ok now) records item first second exact g =
     item_written m e start now held mid new limit answer facts after made at w ready
     (subst (λ t. GrownTo ready.new w.is.metadata.missing [] (Sample answer ∷ []) (with_run start.volume made.records t ready.new.files) now new) second
-    (subst (λ t. GrownTo ready.new w.is.metadata.missing [] (Sample answer ∷ []) (with_run start.volume t item ready.new.files) now new) first g))
-item_ok m e start held mid new limit answer facts after made at w ready (Err x) records item first second g = tt
+    (subst (λ t. GrownTo ready.new w.is.metadata.missing [] (Sample answer ∷ []) (with_run start.volume t item ready.new.files) now new) first g)) (ap (λ (x : Ends). x.greatest) exact)
+item_ok m e start held mid new limit answer facts after made at w ready (Err x) records item first second exact g = tt
 
 module _ (m : Meant) (e start : Ends) (held mid : Holdings) (limit : ℕ) (answer : PmResult) (facts : Facts) (after : List MetaRecord) (made : Made) (at : IsAt m e held) (w : MayBeWritten m e limit answer facts after made) (ready : IsReady m e start made.crossing mid) where
   moved_run : IsRunToCome ready.new w.is.metadata.missing (Sample answer ∷ []) made.records made.item
@@ -235,8 +247,11 @@ module _ (m : Meant) (e start : Ends) (held mid : Holdings) (limit : ℕ) (answe
   ready_run records item first second =
       subst (λ t. IsRunToCome ready.new w.is.metadata.missing (Sample answer ∷ []) t item) (sym first) (subst (λ t. IsRunToCome ready.new w.is.metadata.missing (Sample answer ∷ []) made.records t) (sym second) moved_run)
 
+  later : IsLater ready.new.greatest answer.stamp
+  later = subst (λ (o : Option Moment). IsLater o answer.stamp) (at.ends.greatest ∙ sym ready.greatest_is) w.is.later
+
   pub ready_last : IsLastStamp ready.new w.is.metadata.missing (Sample answer ∷ []) answer.stamp
-  ready_last = last_moved m ready.new ready.started ready.records_same ready.items_same w.is.metadata.missing (Sample answer ∷ []) answer.stamp (last_of m e limit answer facts after made at.ends w)
+  ready_last = last_moved m ready.new ready.started ready.records_same ready.items_same w.is.metadata.missing (Sample answer ∷ []) answer.stamp (entries_before ready.new.contents ready.new.greatest answer.stamp ready.at.ends.above later) (last_of m e limit answer facts after made at.ends w)
 
   pub ready_survives : (image : Files) → SurvivesWith ready.new (Sample answer ∷ []) image → SurvivesWith m (Sample answer ∷ []) image
   ready_survives image s = survives_moved m ready.new ready.started ready.records_same ready.items_same w.is.metadata.missing (Sample answer ∷ []) image ready.still s

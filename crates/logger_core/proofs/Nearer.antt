@@ -70,6 +70,7 @@ module _ (s : Start) (files : Files) (c : ArchiveContents) (number known acknowl
     labelled = still_labelled k.labelled;
     points = λ was. each-map (PointsSurely files old number) (PointsSurely files new number) still_points c.entries (k.points was);
     items = more_sure (length (items_of k.last.before)) k.last.whole.payloads (length (old (Volume number)).sure) (length (new (Volume number)).sure) acknowledged (grows (Volume number)) k.items;
+    earlier = k.earlier;
   }
 
 -- ---- all is sure
@@ -103,6 +104,7 @@ module _ (s : Start) (files : Files) (c : ArchiveContents) (number known acknowl
         labelled = k.labelled;
         points = k.points;
         items = inr (length w.payloads, omega arith, omega (arith, all_end w.payloads, ap (λ (x : Held). length x.sure) sure), omega (arith, count, as_many IsItem w.payloads k.last.items w.read));
+        earlier = omega (arith, count);
       }
 
   pub all_known : held Meta ≡ is_sure (files Meta) → Keeps s files c number (length c.records) acknowledged held
@@ -129,4 +131,5 @@ module _ (s : Start) (files : Files) (c : ArchiveContents) (number known acknowl
         labelled = k.labelled;
         points = k.points;
         items = k.items;
+        earlier = k.earlier;
       }

@@ -4,6 +4,7 @@ use Rattle.std.specs.Prelude.{Contains}
 use Rattle.std.specs.Prelude.{map}
 use Rattle.std.proofs.lemmas.List.{append-nil}
 use Rattle.std.proofs.Math.Dec.{eqb-suc-zero}
+use Rattle.pcp_base.specs.Time.{Moment}
 use Rattle.pcp_base.specs.declared.file.FileId.TheVariants.{Meta, Index, Volume}
 use Rattle.pcp_base.specs.declared.result.Item.{Item}
 use Rattle.pcp_model.specs.Archive.{IsArchive}
@@ -22,6 +23,7 @@ use Rattle.pcp_model.specs.declared.records.MetaRecord.{MetaRecord}
 use Rattle.logger_core.specs.Created.{HoldsLabels, no_items, new_archive, first_ends, IsCreated}
 use Rattle.logger_core.specs.Laws.{IsWhole}
 use Rattle.logger_core.specs.Meant.{IsAt, Kept}
+use Rattle.logger_core.specs.Steps.{IsStampIn}
 use Rattle.logger_core.proofs.NoItems.{spelled, alone, meta_fits, index_fits, first_fits}
 use Rattle.logger_core.proofs.Whole.{whole_is_kept}
 
@@ -54,6 +56,11 @@ module _ (l : LabelFields) (held : Holdings) (r : LabelInRange l (pos 0)) (label
     sure = labels;
   }
 
+  none_stamped : (t : Moment) → IsStampIn (no_items l) t → ⊥
+  none_stamped t (inl item) = omega (arith, item.1.1)
+  none_stamped t (inr (inl domain)) = omega (arith, domain.2.1)
+  none_stamped t (inr (inr entry)) = omega (arith, entry.1.1)
+
   pub new_at : IsAt (new_archive l) (record { meta = 132; index = 132; volume = 0; length = 132; greatest = None; entry = None; logged = 0; acknowledged = 0 }) held
   new_at = record {
     stands = record {
@@ -61,15 +68,16 @@ module _ (l : LabelFields) (held : Holdings) (r : LabelInRange l (pos 0)) (label
       written = λ file. ap bytes_of (labels file) ∙ append-nil (created_files l file);
       sure = ap (λ (h : Held). h.rest) (labels Meta);
       indexed = omega (arith, ap (λ (h : Held). length h.sure) (labels Index), length-label l (negsuc 1) r.fits);
+      headed = omega (arith, ap (λ (h : Held). length h.sure) (labels (Volume 0)), length-label l (pos 0) r.fits);
     };
     ends = record {
       meta = sym (length-label l (negsuc 0) r.fits);
       index = sym (length-label l (negsuc 1) r.fits);
       length_is = sym (length-label l (pos 0) r.fits);
-      greatest = λ t stamp. elim stamp [
-        | inl item ↦ absurd (omega (arith, item.1.1))
-        | inr domain ↦ absurd (omega (arith, domain.2.1))
-      ];
+      greatest = refl;
+      moment = tt;
+      above = none_stamped;
+      found = λ none. none_stamped;
       entry = refl;
       logged = refl;
       acknowledged_is = refl;

@@ -1,11 +1,11 @@
 -- The next volume got its label.
-use Rattle.std.proofs.Common.{◌≡◌, ℕ, pos, ◌+◌, ◌<◌, List, [], ◌++◌, length, refl, sym, ap, ◌∙◌, subst, arith}
+use Rattle.std.proofs.Common.{◌≡◌, ℕ, pos, ◌+◌, ◌<◌, List, [], ◌++◌, length, refl, sym, ap, ◌∙◌, subst, arith, length-append}
 use Rattle.std.specs.Int.{w32, cast_signed}
 use Rattle.std.proofs.lemmas.Int.{to_z_pos}
 use Rattle.std.proofs.lemmas.List.{append-nil}
 use Rattle.pcp_base.specs.declared.file.FileId.TheVariants.{Meta, Index, Volume}
 use Rattle.pcp_model.specs.Archive.{items_of}
-use Rattle.pcp_model.specs.Disk.{Files, Held, Holdings, CrashImage}
+use Rattle.pcp_model.specs.Disk.{Files, Held, Holdings, CrashImage, bytes_of}
 use Rattle.pcp_model.specs.Labels.{label, IsLabel}
 use Rattle.pcp_model.specs.LabelFields.{LabelFields}
 use Rattle.pcp_model.specs.Written.{with_added}
@@ -22,13 +22,13 @@ use Rattle.logger_core.specs.LogSteps.{with_new_volume}
 use Rattle.logger_core.specs.Meant.{Meant, IsAt, SurvivesOf, items_in}
 use Rattle.logger_core.specs.Going.{IsVolumeSure, GrownTo}
 use Rattle.logger_core.specs.Steps.{last_entry}
-use Rattle.logger_core.proofs.EntryPut.{greatest_same}
+use Rattle.logger_core.proofs.Greatest.{above_same, greatest_same}
 use Rattle.logger_core.proofs.NoItems.{spelled}
 use Rattle.logger_core.proofs.Pointwise.{other_added}
 use Rattle.logger_core.proofs.Rests.{grown_survives, sure_keeps, sure_written, survives_same, volume_is_sure}
 use Rattle.logger_core.proofs.Switched.{volume_announced}
 
-module _ (m : Meant) (e : Ends) (held : Holdings) (l : LabelFields) (bytes : List ℕ) (at : IsAt m e held) (sure : IsVolumeSure e.volume held) (same_label : m.contents.label ≡ l) (is : bytes ≡ label l (pos (e.volume + 1))) (range : LabelInRange l (pos (e.volume + 1))) where
+module _ (m : Meant) (e : Ends) (held : Holdings) (l : LabelFields) (bytes : List ℕ) (at : IsAt m e held) (sure : IsVolumeSure e.volume held) (all : m.acknowledged ≡ length (items_in m)) (same_label : m.contents.label ≡ l) (is : bytes ≡ label l (pos (e.volume + 1))) (range : LabelInRange l (pos (e.volume + 1))) where
   abbrev next : ℕ
   next = e.volume + 1
 
@@ -41,8 +41,8 @@ module _ (m : Meant) (e : Ends) (held : Holdings) (l : LabelFields) (bytes : Lis
   label_is : IsLabel head m.contents.label (pos next)
   label_is = subst (λ x. IsLabel head x (pos next)) (sym same_label) (is_label l (pos next) (spelled l (pos next) range) range.signed)
 
-  come : IsVolumeToCome m.files m.contents e.volume next held head
-  come = record { above = omega arith; label = label_is; volume_sure = volume_is_sure m e.volume held at.stands sure }
+  come : IsVolumeToCome m.files m.contents e.volume next m.acknowledged held head
+  come = record { above = omega arith; label = label_is; volume_sure = volume_is_sure m e.volume held at.stands sure; all = omega (arith, all) }
 
   said : Announces m.start files m.contents next (length m.contents.records) m.acknowledged held [] [] []
   said = volume_announced m.start m.files m.contents e.volume next (length m.contents.records) m.acknowledged held head at.stands.keeps come
@@ -52,6 +52,9 @@ module _ (m : Meant) (e : Ends) (held : Holdings) (l : LabelFields) (bytes : Lis
 
   same_records : said.new.records ≡ m.contents.records
   same_records = said.longer.records ∙ append-nil m.contents.records
+
+  same_entries : said.new.entries ≡ m.contents.entries
+  same_entries = said.longer.entries ∙ append-nil m.contents.entries
 
   this : files (Volume next) ≡ m.files (Volume next) ++ head
   this = added_this next head m.files
@@ -78,9 +81,10 @@ module _ (m : Meant) (e : Ends) (held : Holdings) (l : LabelFields) (bytes : Lis
     pub label_grown : GrownTo m [] [] [] (with_new_volume l next m.files) (record { meta = e.meta; index = e.index; volume = e.volume + 1; length = 132; greatest = e.greatest; entry = e.entry; logged = e.logged; acknowledged = e.acknowledged }) new
     label_grown = (
       record {
-        new = record { start = m.start; files = files; contents = said.new; acknowledged = m.acknowledged };
+        new = record { start = m.start; files = files; contents = said.new; acknowledged = m.acknowledged; gone = m.gone; greatest = m.greatest };
         started = refl;
         acknowledged_is = refl;
+        gone_is = refl;
         longer = said.longer;
         files_are = λ file. refl;
         stands = record {
@@ -88,15 +92,19 @@ module _ (m : Meant) (e : Ends) (held : Holdings) (l : LabelFields) (bytes : Lis
           written = sure_written m.start m.files files said.new next (length m.contents.records) m.acknowledged held (Volume next) head said.keeps refl at.stands.written this (λ g other. other_added (Volume next) head m.files g other) new change_is;
           sure = ap (λ (h : Held). h.rest) (change_is.others Meta refl) ∙ at.stands.sure;
           indexed = omega (arith, at.stands.indexed, ap (λ (h : Held). length h.sure) (change_is.others Index refl));
+          headed = omega (arith, ap (λ (h : Held). length h.sure) change_is.this, length-append (bytes_of (held (Volume next))) head, length-label l (pos next) range.fits);
         };
       },
       record {
         meta = at.ends.meta;
         index = at.ends.index;
         length_is = sym (ap length (this ∙ ap (λ t. t ++ head) empty) ∙ length-label l (pos next) range.fits);
-        greatest = greatest_same m.contents said.new same_items same_records e.greatest at.ends.greatest;
-        entry = at.ends.entry ∙ ap last_entry (sym (said.longer.entries ∙ append-nil m.contents.entries));
-        logged = at.ends.logged ∙ ap (λ xs. shown_count (length xs)) (sym same_items);
+        greatest = at.ends.greatest;
+        moment = at.ends.moment;
+        above = above_same m.contents said.new same_items same_records same_entries m.greatest at.ends.above;
+        found = λ none. greatest_same m.contents said.new same_items same_records same_entries m.greatest (at.ends.found none);
+        entry = at.ends.entry ∙ ap last_entry (sym same_entries);
+        logged = at.ends.logged ∙ ap (λ xs. shown_count (m.gone + length xs)) (sym same_items);
         acknowledged_is = at.ends.acknowledged_is;
       },
     )

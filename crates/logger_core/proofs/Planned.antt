@@ -1,8 +1,8 @@
 -- The numbers of what is planned are those of the files.
 use Rattle.std.proofs.Common.{◌≡◌, inl, ℕ, ◌+◌, ◌<◌, ◌≤◌, Bool, true, false, List, [], ◌∷◌, ◌++◌, length, Option, None, Some, refl, sym, ap, ◌∙◌, subst, append_assoc, arith, length-append}
-use Rattle.std.specs.Prelude.{Contains}
+use Rattle.std.specs.Prelude.{Contains, IfSome}
 use Rattle.std.proofs.lemmas.List.{append-nil}
-use Rattle.pcp_base.specs.Time.{Moment}
+use Rattle.pcp_base.specs.Time.{Moment, IsMoment}
 use Rattle.pcp_base.specs.declared.file.FileId.TheVariants.{Meta, Index, Volume}
 use Rattle.pcp_base.specs.declared.result.Item.{Item}
 use Rattle.pcp_model.specs.declared.records.Entry.{Entry}
@@ -20,9 +20,9 @@ use Rattle.logger_core.specs.LogSteps.{base_number, with_run}
 use Rattle.logger_core.specs.Meant.{Meant, AreEnds, items_in}
 use Rattle.logger_core.specs.Planning.{due_at, switch_at, with_put, flushed_ends, opened_ends, ready_ends, ran_ends}
 use Rattle.logger_core.specs.Runs.{IsLastStamp, IsReady}
-use Rattle.logger_core.specs.Steps.{last_entry}
+use Rattle.logger_core.specs.Steps.{IsAbove, IsGreatest, NoEntryAfter, last_entry}
 use Rattle.logger_core.specs.Writing.{IsBounded}
-use Rattle.logger_core.proofs.RunPut.{contains_last}
+use Rattle.logger_core.proofs.Whole.{contains_last}
 
 -- ---- what an entry changes
 
@@ -93,7 +93,7 @@ ran_twice a b c d k n u t s =
 -- ---- what is meant behind a run
 
 module _ (n : Meant) (s : Ends) (records : List MetaRecord) (items : List Item) (meta_bytes item_bytes : List ℕ) (t : Moment) (count : ℕ) (o : Meant) (ends : AreEnds n s) (last : IsLastStamp n records items t) (many : length items ≡ count)
-    (g : Grown n records items (with_run s.volume meta_bytes item_bytes n.files) o) where
+    (g : Grown n records items t (with_run s.volume meta_bytes item_bytes n.files) o) where
   meta_file : o.files Meta ≡ n.files Meta ++ meta_bytes
   meta_file = g.files_are Meta
 
@@ -103,44 +103,64 @@ module _ (n : Meant) (s : Ends) (records : List MetaRecord) (items : List Item) 
   volume_file : o.files (Volume s.volume) ≡ n.files (Volume s.volume) ++ item_bytes
   volume_file = g.files_are (Volume s.volume) ∙ added_this s.volume item_bytes (with_added Meta meta_bytes n.files)
 
+  no_item : NoItemAfter t (items_in o)
+  no_item = subst (NoItemAfter t) (sym g.longer.items) last.before
+
+  no_domain : NoDomainAfter t o.contents.records
+  no_domain = subst (NoDomainAfter t) (sym g.longer.records) last.domains
+
+  same_entries : o.contents.entries ≡ n.contents.entries
+  same_entries = g.longer.entries ∙ append-nil n.contents.entries
+
+  no_entry : NoEntryAfter t o.contents.entries
+  no_entry = subst (NoEntryAfter t) (sym same_entries) last.entries
+
+  there : Contains (items_in o) last.last
+  there = subst (λ xs. Contains xs last.last) (sym (g.longer.items ∙ ap (λ xs. items_in n ++ xs) last.are ∙ sym (append_assoc (items_in n) last.first (last.last ∷ [])))) (contains_last (items_in n ++ last.first) last.last)
+
   pub grown_ends : AreEnds o (ran_ends (length meta_bytes) (length item_bytes) count t s)
   grown_ends = record {
     meta = omega (arith, ends.meta, ap length meta_file, length-append (n.files Meta) meta_bytes);
     index = ends.index ∙ ap length (sym index_file);
     length_is = omega (arith, ends.length_is, ap length volume_file, length-append (n.files (Volume s.volume)) item_bytes);
-    greatest = (
-      inl (last.last, subst (λ xs. Contains xs last.last) (sym (g.longer.items ∙ ap (λ xs. items_in n ++ xs) last.are ∙ sym (append_assoc (items_in n) last.first (last.last ∷ [])))) (contains_last (items_in n ++ last.first) last.last), last.stamped),
-      subst (NoItemAfter t) (sym g.longer.items) last.before,
-      subst (NoDomainAfter t) (sym g.longer.records) last.domains,
-    );
-    entry = ends.entry ∙ ap last_entry (sym (g.longer.entries ∙ append-nil n.contents.entries));
-    logged = omega (arith, ends.logged, ap length g.longer.items, length-append (items_in n) items);
-    acknowledged_is = ends.acknowledged_is ∙ ap shown_count (sym g.acknowledged_is);
+    greatest = sym g.greatest_is;
+    moment = subst (λ (x : Option Moment). IfSome x IsMoment) (sym g.greatest_is) last.moment;
+    above = subst (IsAbove o.contents) (sym g.greatest_is) (no_item, no_domain, no_entry);
+    found = λ none. subst (IsGreatest o.contents) (sym g.greatest_is) (inl (last.last, there, last.stamped), no_item, no_domain, no_entry);
+    entry = ends.entry ∙ ap last_entry (sym same_entries);
+    logged = omega (arith, ends.logged, ap length g.longer.items, length-append (items_in n) items, g.gone_is);
+    acknowledged_is = omega (arith, ends.acknowledged_is, g.acknowledged_is, g.gone_is);
   }
 
 -- what is meant then, before any byte of it is written
-abbrev pub behind : Meant → List MetaRecord → List Item → ℕ → List ℕ → List ℕ → Meant
-behind n records items number meta_bytes item_bytes = record {
+abbrev pub behind : Meant → List MetaRecord → List Item → Moment → ℕ → List ℕ → List ℕ → Meant
+behind n records items t number meta_bytes item_bytes = record {
   start = n.start;
   files = with_run number meta_bytes item_bytes n.files;
   contents = record { label = n.contents.label; records = n.contents.records ++ records; entries = n.contents.entries; volumes = n.contents.volumes ++ (number, items) ∷ [] };
   acknowledged = n.acknowledged;
+  gone = n.gone;
+  greatest = Some t;
 }
 
-pub behind_grown : (n : Meant) (records : List MetaRecord) (items : List Item) (number : ℕ) (meta_bytes item_bytes : List ℕ) → Grown n records items (with_run number meta_bytes item_bytes n.files) (behind n records items number meta_bytes item_bytes)
-behind_grown n records items number meta_bytes item_bytes = record {
+pub behind_grown : (n : Meant) (records : List MetaRecord) (items : List Item) (t : Moment) (number : ℕ) (meta_bytes item_bytes : List ℕ) → Grown n records items t (with_run number meta_bytes item_bytes n.files) (behind n records items t number meta_bytes item_bytes)
+behind_grown n records items t number meta_bytes item_bytes = record {
   started = refl;
   acknowledged_is = refl;
+  gone_is = refl;
+  greatest_is = refl;
   longer = record { label = refl; records = refl; entries = sym (append-nil n.contents.entries); items = items_of-append n.contents.volumes ((number, items) ∷ []) ∙ ap (λ xs. items_in n ++ xs) (append-nil items) };
   files_are = λ file. refl;
 }
 
-pub grown_of : (n : Meant) (records : List MetaRecord) (items : List Item) (files : Files) (number : ℕ) (held : Holdings) → (g : GrowsBy n records [] items files number held) → Grown n records items files g.new
-grown_of n records items files number held g = record { started = g.started; acknowledged_is = g.acknowledged_is; longer = g.longer; files_are = g.files_are }
+pub grown_of : (n : Meant) (records : List MetaRecord) (items : List Item) (t : Moment) (files : Files) (number : ℕ) (held : Holdings) → (g : GrowsBy n records [] items files number held) → g.new.greatest ≡ Some t → Grown n records items t files g.new
+grown_of n records items t files number held g stamped = record { started = g.started; acknowledged_is = g.acknowledged_is; gone_is = g.gone_is; greatest_is = stamped; longer = g.longer; files_are = g.files_are }
 
 pub base_of : (m : Meant) (e after : Ends) (crossing : Bool) (held : Holdings) → (r : IsReady m e after crossing held) → IsBase m e crossing r.new
 base_of m e after crossing held r = record {
   started = r.started;
+  gone_is = r.gone_is;
+  greatest_is = r.greatest_is;
   label_same = r.label_same;
   records_same = r.records_same;
   entries_are = r.entries_are;
@@ -151,4 +171,4 @@ base_of m e after crossing held r = record {
 }
 
 pub base_already : (m : Meant) (e : Ends) → IsBase m e false m
-base_already m e = record { started = refl; label_same = refl; records_same = refl; entries_are = sym (append-nil m.contents.entries); items_same = refl; still = omega arith; acknowledged_is = refl; files_are = λ file. refl }
+base_already m e = record { started = refl; gone_is = refl; greatest_is = refl; label_same = refl; records_same = refl; entries_are = sym (append-nil m.contents.entries); items_same = refl; still = omega arith; acknowledged_is = refl; files_are = λ file. refl }

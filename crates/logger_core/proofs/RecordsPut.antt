@@ -1,7 +1,7 @@
 -- Records were put behind Meta.
 use Rattle.std.proofs.Common.{◌≡◌, ℕ, List, [], ◌∷◌, ◌++◌, length, refl, sym, ap, ◌∙◌, subst, arith, length-append}
 use Rattle.std.proofs.lemmas.List.{append-nil}
-use Rattle.pcp_base.specs.declared.file.FileId.TheVariants.{Meta, Index}
+use Rattle.pcp_base.specs.declared.file.FileId.TheVariants.{Meta, Index, Volume}
 use Rattle.pcp_model.specs.declared.records.MetaRecord.{MetaRecord}
 use Rattle.pcp_model.specs.Archive.{AreRead, items_of}
 use Rattle.pcp_model.specs.Disk.{Files, Held, Holdings, CrashImage}
@@ -37,6 +37,7 @@ none_grown m number held payloads records bytes at is none read =
       new = m;
       started = refl;
       acknowledged_is = refl;
+      gone_is = refl;
       longer = record { label = refl; records = sym (append-nil m.contents.records); entries = sym (append-nil m.contents.entries); items = sym (append-nil (items_in m)) };
       files_are = λ file. sym (ap (λ t. with_added Meta t m.files file) none ∙ added_none Meta m.files file);
       stands = at;
@@ -70,9 +71,10 @@ module _ (m : Meant) (number : ℕ) (held : Holdings) (payloads : List (List ℕ
 
     pub records_grown : GrowsBy m records [] [] (with_added Meta bytes m.files) number new
     records_grown = record {
-      new = record { start = m.start; files = files; contents = said.new; acknowledged = m.acknowledged };
+      new = record { start = m.start; files = files; contents = said.new; acknowledged = m.acknowledged; gone = m.gone; greatest = m.greatest };
       started = refl;
       acknowledged_is = refl;
+      gone_is = refl;
       longer = said.longer;
       files_are = λ file. ap (λ t. with_added Meta t m.files file) (sym is);
       stands = record {
@@ -80,6 +82,7 @@ module _ (m : Meant) (number : ℕ) (held : Holdings) (payloads : List (List ℕ
         written = sure_written m.start m.files files said.new number (length m.contents.records) m.acknowledged held Meta (frames payloads) said.keeps tt at.written refl (λ g other. other_added Meta (frames payloads) m.files g other) new change_is;
         sure = ap (λ (h : Held). h.rest) meta_now;
         indexed = omega (arith, at.indexed, ap (λ (h : Held). length h.sure) (change_is.others Index refl));
+        headed = omega (arith, at.headed, ap (λ (h : Held). length h.sure) (change_is.others (Volume number) refl));
       };
     }
 

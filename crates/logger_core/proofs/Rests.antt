@@ -131,6 +131,7 @@ module _ (m : Meant) (number : ℕ) (held : Holdings) (at : Stands m number held
       written = still_written;
       sure = ap (λ (h : Held). h.rest) (change.others Meta refl) ∙ at.sure;
       indexed = omega (arith, at.indexed, ap (λ (h : Held). length h.sure) (change.others Index refl));
+      headed = omega (arith, at.headed, sure_grows, ap (λ (h : Held). length h.sure) change.this);
     }
 
 pub synced_at : (m : Meant) (e : Ends) (held new : Holdings) → IsAt m e held → Becomes (Volume e.volume) (held_after_sync (held (Volume e.volume))) held new
@@ -142,6 +143,9 @@ synced_at m e held new at change = record {
     index = at.ends.index;
     length_is = at.ends.length_is;
     greatest = at.ends.greatest;
+    moment = at.ends.moment;
+    above = at.ends.above;
+    found = at.ends.found;
     entry = at.ends.entry;
     logged = at.ends.logged;
     acknowledged_is = at.ends.logged;

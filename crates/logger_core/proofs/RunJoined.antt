@@ -16,6 +16,7 @@ use Rattle.pcp_model.proofs.Cuts.{frames-append, read-append}
 use Rattle.pcp_model.proofs.Lists.{each-append, each-map, each-split}
 use Rattle.logger_core.specs.Meant.{Meant, items_in}
 use Rattle.logger_core.specs.Runs.{Rise, IsRunToCome, IsLastStamp}
+use Rattle.logger_core.specs.Steps.{NoEntryAfter}
 
 each-then : {X : Type 0} (P Q R : X → Type 0) → ((x : X) → P x → Q x → R x) → (xs : List X) → AllByRecursion P xs → AllByRecursion Q xs → AllByRecursion R xs
 each-then P Q R f [] ps qs = tt
@@ -79,12 +80,14 @@ module _ (n v : Meant) (records more : List MetaRecord) (items others : List Ite
       rise = rise-append (items_in n) items others first.rise (subst (λ xs. Rise xs others) items_are second.rise);
     }
 
-  pub last_joined : (t : Moment) → IsLastStamp v more others t → IsLastStamp n (records ++ more) (items ++ others) t
-  last_joined t last = record {
+  pub last_joined : (t : Moment) → v.contents.entries ≡ n.contents.entries → IsLastStamp v more others t → IsLastStamp n (records ++ more) (items ++ others) t
+  last_joined t entries_are last = record {
     first = items ++ last.first;
     last = last.last;
     are = ap (λ xs. items ++ xs) last.are ∙ sym (append_assoc items last.first (last.last ∷ []));
     stamped = last.stamped;
+    moment = last.moment;
     before = subst (NoItemAfter t) (ap (λ xs. xs ++ others) items_are ∙ append_assoc (items_in n) items others) last.before;
     domains = subst (NoDomainAfter t) (ap (λ rs. rs ++ more) records_are ∙ append_assoc n.contents.records records more) last.domains;
+    entries = subst (NoEntryAfter t) entries_are last.entries;
   }

@@ -21,13 +21,9 @@ use Rattle.logger_core.specs.LogSteps.{with_run}
 use Rattle.logger_core.specs.Meant.{Meant, AreEnds, IsAt, items_in}
 use Rattle.logger_core.specs.Going.{GrowsBy}
 use Rattle.logger_core.specs.Runs.{Rise, AreItemsToCome, IsRunToCome, IsLastStamp, SurvivesWith}
-use Rattle.logger_core.specs.Steps.{last_entry}
+use Rattle.logger_core.specs.Steps.{NoEntryAfter, last_entry}
 use Rattle.logger_core.proofs.Pointwise.{added_same}
-use Rattle.logger_core.proofs.Whole.{next_contains}
-
-pub contains_last : {X : Type 0} (xs : List X) (x : X) → Contains (xs ++ x ∷ []) x
-contains_last [] x = (0, omega arith, refl)
-contains_last (y ∷ ys) x = next_contains y (ys ++ x ∷ []) x (contains_last ys x)
+use Rattle.logger_core.proofs.Whole.{contains_last}
 
 module _ (m : Meant) (e : Ends) (held mid : Holdings) (records : List MetaRecord) (items : List Item) (meta_bytes item_bytes : List ℕ) (at : IsAt m e held) (run : IsRunToCome m records items meta_bytes item_bytes)
     (g : GrowsBy m records [] [] (with_added Meta meta_bytes m.files) e.volume mid) where
@@ -48,11 +44,13 @@ module _ (m : Meant) (e : Ends) (held mid : Holdings) (records : List MetaRecord
     pub all_items : items_in h.new ≡ items_in m ++ items
     all_items = h.longer.items ∙ ap (λ xs. xs ++ items) same_items
 
-    abbrev pub run_grown : GrowsBy m records [] items (with_run e.volume meta_bytes item_bytes m.files) e.volume new
-    run_grown = record {
-      new = h.new;
+    -- the last item's stamp is then the greatest
+    abbrev pub run_grown : Moment → GrowsBy m records [] items (with_run e.volume meta_bytes item_bytes m.files) e.volume new
+    run_grown t = record {
+      new = record { start = h.new.start; files = h.new.files; contents = h.new.contents; acknowledged = h.new.acknowledged; gone = h.new.gone; greatest = Some t };
       started = h.started ∙ g.started;
       acknowledged_is = h.acknowledged_is ∙ g.acknowledged_is;
+      gone_is = h.gone_is ∙ g.gone_is;
       longer = record {
         label = h.longer.label ∙ g.longer.label;
         records = all_records;
@@ -60,7 +58,7 @@ module _ (m : Meant) (e : Ends) (held mid : Holdings) (records : List MetaRecord
         items = all_items;
       };
       files_are = λ file. h.files_are file ∙ added_same (Volume e.volume) item_bytes g.new.files (with_added Meta meta_bytes m.files) g.files_are file;
-      stands = h.stands;
+      stands = record { keeps = h.stands.keeps; written = h.stands.written; sure = h.stands.sure; indexed = h.stands.indexed; headed = h.stands.headed };
     }
 
     same_entries : h.new.contents.entries ≡ m.contents.entries
@@ -76,19 +74,30 @@ module _ (m : Meant) (e : Ends) (held mid : Holdings) (records : List MetaRecord
     volume_file = h.files_are (Volume e.volume) ∙ added_this e.volume item_bytes g.new.files ∙ ap (λ t. t ++ item_bytes) (g.files_are (Volume e.volume))
 
     module _ (t : Moment) (count logged : ℕ) (last : IsLastStamp m records items t) (many : length items ≡ count) (logged_is : logged ≡ shown_count (e.logged + count)) where
-      pub run_ends : AreEnds h.new (record { meta = e.meta + length meta_bytes; index = e.index; volume = e.volume; length = e.length + length item_bytes; greatest = Some t; entry = e.entry; logged = logged; acknowledged = e.acknowledged })
+      no_item : NoItemAfter t (items_in h.new)
+      no_item = subst (NoItemAfter t) (sym all_items) last.before
+
+      no_domain : NoDomainAfter t h.new.contents.records
+      no_domain = subst (NoDomainAfter t) (sym all_records) last.domains
+
+      no_entry : NoEntryAfter t h.new.contents.entries
+      no_entry = subst (NoEntryAfter t) (sym same_entries) last.entries
+
+      there : Contains (items_in h.new) last.last
+      there = subst (λ xs. Contains xs last.last) (sym (all_items ∙ ap (λ xs. items_in m ++ xs) last.are ∙ sym (append_assoc (items_in m) last.first (last.last ∷ [])))) (contains_last (items_in m ++ last.first) last.last)
+
+      pub run_ends : AreEnds (run_grown t).new (record { meta = e.meta + length meta_bytes; index = e.index; volume = e.volume; length = e.length + length item_bytes; greatest = Some t; entry = e.entry; logged = logged; acknowledged = e.acknowledged })
       run_ends = record {
         meta = omega (arith, at.ends.meta, ap length meta_file, length-append (m.files Meta) meta_bytes);
         index = at.ends.index ∙ ap length (sym index_file);
         length_is = omega (arith, at.ends.length_is, ap length volume_file, length-append (m.files (Volume e.volume)) item_bytes);
-        greatest = (
-          inl (last.last, subst (λ xs. Contains xs last.last) (sym (all_items ∙ ap (λ xs. items_in m ++ xs) last.are ∙ sym (append_assoc (items_in m) last.first (last.last ∷ [])))) (contains_last (items_in m ++ last.first) last.last), last.stamped),
-          subst (NoItemAfter t) (sym all_items) last.before,
-          subst (NoDomainAfter t) (sym all_records) last.domains,
-        );
+        greatest = refl;
+        moment = last.moment;
+        above = (no_item, no_domain, no_entry);
+        found = λ none. (inl (last.last, there, last.stamped), no_item, no_domain, no_entry);
         entry = at.ends.entry ∙ ap last_entry (sym same_entries);
-        logged = omega (arith, logged_is, at.ends.logged, ap length all_items, length-append (items_in m) items);
-        acknowledged_is = at.ends.acknowledged_is ∙ ap shown_count (sym (h.acknowledged_is ∙ g.acknowledged_is));
+        logged = omega (arith, logged_is, at.ends.logged, ap length all_items, length-append (items_in m) items, h.gone_is, g.gone_is);
+        acknowledged_is = omega (arith, at.ends.acknowledged_is, h.acknowledged_is, g.acknowledged_is, h.gone_is, g.gone_is);
       }
 
   -- what survives of the longer archive survives of the first

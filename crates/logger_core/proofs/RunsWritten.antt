@@ -1,9 +1,10 @@
 -- A run is written, and then the runs behind it.
 use Rattle.std.proofs.Common.{suc, ◌≡◌, inl, inr, ⊎_elim, ℕ, ◌+◌, true, List, [], ◌∷◌, ◌++◌, length, take, drop, refl, sym, ap, ◌∙◌, subst, append_assoc, arith, length-append}
-use Rattle.std.specs.Prelude.{slice_get, Some, Result, Ok, Err, IfOk, if◌then◌else◌, Bool, false}
+use Rattle.std.specs.Prelude.{slice_get, Option, Some, Result, Ok, Err, IfOk, if◌then◌else◌, Bool, false}
 use Rattle.std.proofs.Math.Path.{fun_ext}
 use Rattle.std.proofs.Math.Seq.{drop-append-add, take-append-add}
 use Rattle.std.proofs.lemmas.Option.{same_Some}
+use Rattle.pcp_base.specs.Time.{Moment}
 use Rattle.pcp_base.specs.declared.file.FileId.{FileId}
 use Rattle.pcp_base.specs.declared.file.FileId.TheVariants.{Meta, Volume}
 use Rattle.pcp_base.specs.declared.result.Item.{Item}
@@ -23,10 +24,10 @@ use Rattle.logger_core.specs.Keeps.{Start}
 use Rattle.logger_core.specs.Laws.{Survives}
 use Rattle.logger_core.specs.Logging.{IsLoggable}
 use Rattle.logger_core.specs.LogSteps.{base_files, crosses, with_next, with_run}
-use Rattle.logger_core.specs.Meant.{Meant, AreEnds, IsAt, items_in}
+use Rattle.logger_core.specs.Meant.{Meant, AreEnds, IsAt, items_in, stood_in}
 use Rattle.logger_core.specs.Planning.{ran_ends, ready_ends}
 use Rattle.logger_core.specs.Runs.{IsReady, IsRunToCome, SurvivesWith}
-use Rattle.logger_core.specs.Steps.{with_entry}
+use Rattle.logger_core.specs.Steps.{due_in, with_entry}
 use Rattle.logger_core.proofs.AtMost.{most_as}
 use Rattle.logger_core.proofs.Grouped.{samples_then, samples_many, loggable_then, logs_then}
 use Rattle.logger_core.proofs.Loggable.{survives_moved}
@@ -38,8 +39,10 @@ use Rattle.logger_core.proofs.Turned.{due_same}
 -- ---- one run
 
 -- the files before a run, by the numbers
-pub based : (m : Meant) (e : Ends) → AreEnds m e → (b : Bool) (file : FileId) → base_files b m.files m.contents e.volume e.greatest file ≡ ready_files m.contents.label b e m.files file
-based m e ends true file = ap (λ o. with_next m.contents.label (e.volume + 1) e.greatest (with_entry o m.files) file) (sym (due_same m e ends))
+pub based : (m : Meant) (e : Ends) → AreEnds m e → (b : Bool) (file : FileId) → base_files b m.files m.contents e.volume m.greatest (stood_in m) file ≡ ready_files m.contents.label b e m.files file
+based m e ends true file =
+    ap (λ (t : Option Moment). with_next m.contents.label (e.volume + 1) t (with_entry (due_in m.files m.contents e.volume m.greatest (stood_in m)) m.files) file) (sym ends.greatest)
+    ∙ ap (λ o. with_next m.contents.label (e.volume + 1) e.greatest (with_entry o m.files) file) (sym (due_same m e ends))
 based m e ends false file = refl
 
 module _ (m : Meant) (e start : Ends) (held mid : Holdings) (limit : ℕ) (run : Run) (group : List Told) (now : List MetaRecord) (after : Ends) (at : IsAt m e held) (r : IsRunOf m.contents.records e limit run group now after) (enough : AreAllEnough group)
@@ -68,10 +71,11 @@ module _ (m : Meant) (e start : Ends) (held mid : Holdings) (limit : ℕ) (run :
   run_most new records items first second most = most_as (with_run start.volume run.records run.items ready.new.files) (run_files m.contents.label e run m.files) new run_are
       (subst (λ t. HoldsNoMore (with_run start.volume run.records t ready.new.files) new) second (subst (λ t. HoldsNoMore (with_run start.volume t items ready.new.files) new) first most))
 
-  pub run_written : (next : Ends) (new : Holdings) → next.volume ≡ start.volume → GrownTo ready.new may_run.records [] (samples_of group) (with_run start.volume run.records run.items ready.new.files) next new → RunWritten m e next limit (run ∷ []) group now new
-  run_written next new number g = record {
+  pub run_written : (next : Ends) (new : Holdings) → next.volume ≡ start.volume → next.greatest ≡ Some run.stamp → GrownTo ready.new may_run.records [] (samples_of group) (with_run start.volume run.records run.items ready.new.files) next new → RunWritten m e next limit (run ∷ []) group now new
+  run_written next new number stamped g = record {
     new = g.0.new;
     started = g.0.started ∙ ready.started;
+    gone_is = g.0.gone_is ∙ ready.gone_is;
     label_same = g.0.longer.label ∙ ready.label_same;
     records_are = g.0.longer.records ∙ sym may_run.now_is;
     items_are = g.0.longer.items ∙ ap (λ xs. xs ++ samples_of group) ready.items_same;
@@ -79,13 +83,13 @@ module _ (m : Meant) (e start : Ends) (held mid : Holdings) (limit : ℕ) (run :
     acknowledged_is = g.0.acknowledged_is ∙ ready.acknowledged_is;
     files_are = λ file. g.0.files_are file ∙ run_are file;
     all = subst (λ (k : ℕ). LogsAll m e.volume limit group g.0.new k) (sym number)
-        (may_run.all g.0.new (grown_of ready.new may_run.records (samples_of group) (with_run start.volume run.records run.items ready.new.files) next.volume new g.0));
+        (may_run.all g.0.new (grown_of ready.new may_run.records (samples_of group) run.stamp (with_run start.volume run.records run.items ready.new.files) next.volume new g.0 (sym g.1.greatest ∙ stamped)));
     at = record { stands = g.0.stands; ends = g.1 };
   }
 
   pub run_ok : {E : Type 0} (new : Holdings) (result : Result Ends E) (records items : List ℕ) → records ≡ run.records → items ≡ run.items → IfOk result (λ next. next ≡ ran_ends (length records) (length items) run.count run.stamp start)
       → IfOk result (λ next. GrownTo ready.new may_run.records [] (samples_of group) (with_run start.volume records items ready.new.files) next new) → IfOk result (λ next. RunWritten m e next limit (run ∷ []) group now new)
-  run_ok new (Ok next) records items first second exact g = run_written next new (ap (λ (x : Ends). x.volume) exact)
+  run_ok new (Ok next) records items first second exact g = run_written next new (ap (λ (x : Ends). x.volume) exact) (ap (λ (x : Ends). x.greatest) exact)
       (subst (λ t. GrownTo ready.new may_run.records [] (samples_of group) (with_run start.volume run.records t ready.new.files) next new) second
       (subst (λ t. GrownTo ready.new may_run.records [] (samples_of group) (with_run start.volume t items ready.new.files) next new) first g))
   run_ok new (Err x) records items first second exact g = tt
@@ -98,7 +102,7 @@ first_many group is = samples_many group ∙ sym is
 pub nothing_written : (m : Meant) (e : Ends) (limit : ℕ) (group : List Told) (now : List MetaRecord) (after : Ends) (held : Holdings) → IsAt m e held → AreRuns m.contents.records e limit [] group now after → RunWritten m e e limit [] group now held
 nothing_written m e limit group now after held at all =
     subst (λ gs. RunWritten m e e limit [] gs now held) (sym all.0)
-    record { new = m; started = refl; label_same = refl; records_are = sym all.1; items_are = sym (append_nil (items_in m)); still = omega arith; acknowledged_is = refl; files_are = λ file. refl; all = (refl, refl); at = at }
+    record { new = m; started = refl; gone_is = refl; label_same = refl; records_are = sym all.1; items_are = sym (append_nil (items_in m)); still = omega arith; acknowledged_is = refl; files_are = λ file. refl; all = (refl, refl); at = at }
   where
     append_nil : (xs : List Item) → xs ++ [] ≡ xs
     append_nil [] = refl
@@ -139,6 +143,7 @@ module _ (m : Meant) (e next : Ends) (limit : ℕ) (run : Run) (runs : List Run)
     rest_written last new r = record {
       new = r.new;
       started = r.started ∙ w.started;
+      gone_is = r.gone_is ∙ w.gone_is;
       label_same = r.label_same ∙ w.label_same;
       records_are = r.records_are;
       items_are = r.items_are ∙ ap (λ xs. xs ++ samples_of all.1) w.items_are ∙ append_assoc (items_in m) (samples_of all.0) (samples_of all.1) ∙ ap (λ xs. items_in m ++ xs) (sym samples_are);

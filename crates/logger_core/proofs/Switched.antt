@@ -22,7 +22,7 @@ use Rattle.logger_core.proofs.Announced.{still_indexed}
 use Rattle.logger_core.proofs.Items.{above_empty}
 use Rattle.logger_core.proofs.Survival.{this_or_other}
 
-module _ (s : Start) (files : Files) (c : ArchiveContents) (number next known acknowledged : ℕ) (held : Holdings) (head : List ℕ) (k : Keeps s files c number known acknowledged held) (come : IsVolumeToCome files c number next held head) where
+module _ (s : Start) (files : Files) (c : ArchiveContents) (number next known acknowledged : ℕ) (held : Holdings) (head : List ℕ) (k : Keeps s files c number known acknowledged held) (come : IsVolumeToCome files c number next acknowledged held head) where
   abbrev added : Files
   added = with_added (Volume next) head files
 
@@ -122,5 +122,6 @@ module _ (s : Start) (files : Files) (c : ArchiveContents) (number next known ac
       labelled = k.labelled;
       points = λ was. each-map (PointsSurely files held number) (PointsSurely added held next) still_points c.entries (k.points was);
       items = inl (all_acknowledged k.items);
+      earlier = come.all;
     };
   }

@@ -5,24 +5,24 @@ use Rattle.std.specs.Int.{w32}
 use Rattle.std.specs.List.{AllByRecursion}
 use Rattle.std.proofs.lemmas.Int.{fits_signed_from_abs}
 use Rattle.pcp_base.specs.Time.{Moment, IsMoment}
-use Rattle.pcp_base.specs.declared.file.FileId.TheVariants.{Volume}
+use Rattle.pcp_base.specs.declared.file.FileId.TheVariants.{Index, Volume}
 use Rattle.pcp_base.specs.declared.result.Item.{Item}
 use Rattle.pcp_base.specs.declared.result.Item.TheVariants.{Sample, Mark}
 use Rattle.pcp_model.specs.declared.records.MetaRecord.{MetaRecord}
 use Rattle.pcp_model.specs.declared.records.MetaRecord.TheVariants.{Description, Domain, Other}
-use Rattle.pcp_model.specs.Archive.{ArchiveContents, ArchiveReading, AreRead, AreVolumes, IsArchive, IsLastVolume, items_of}
+use Rattle.pcp_model.specs.Archive.{ArchiveContents, ArchiveReading, AreRead, AreVolumes, IsArchive, IsIndex, IsLastVolume, items_of}
 use Rattle.pcp_model.specs.Disk.{Files}
 use Rattle.pcp_model.specs.LabelFields.{LabelFields}
 use Rattle.pcp_model.specs.Labels.{IsLabel}
 use Rattle.pcp_model.specs.Payload.{IsItem, stamp_of}
-use Rattle.pcp_model.specs.Records.{IsRecord}
+use Rattle.pcp_model.specs.Records.{IsRecord, FitsEntry}
 use Rattle.pcp_model.proofs.Lists.{each-append}
 use Rattle.pcp_model.proofs.OneReading.{one_reading}
 use Rattle.archive_frame.specs.Labels.{LabelInRange}
 use Rattle.logger_core.specs.Steps.{IsStampIn}
 
 -- what holds of all holds of one of them
-at_of : {X : Type 0} (P : X → Type 0) (xs : List X) (x : X) → AllByRecursion P xs → Contains xs x → P x
+pub at_of : {X : Type 0} (P : X → Type 0) (xs : List X) (x : X) → AllByRecursion P xs → Contains xs x → P x
 at_of P [] x all has = absurd (omega (arith, has.1))
 at_of P (y ∷ ys) x all (zero, low, is) = subst P is all.0
 at_of P (y ∷ ys) x all (suc k, low, is) = at_of P ys x all.1 (k, omega (arith, low), is)
@@ -59,10 +59,15 @@ all_timely files l [] are = tt
 all_timely files l (v ∷ []) are = each-append IsTimely v.1 [] (last_timely (files (Volume v.0)) l v.0 v.1 are) tt
 all_timely files l (v ∷ w ∷ vs) are = each-append IsTimely v.1 (items_of (w ∷ vs)) (each_read IsItem IsTimely item_timely are.0.payloads v.1 are.0.read) (all_timely files l (w ∷ vs) are.2)
 
+entries_fit : (bytes : List ℕ) (c : ArchiveContents) → IsIndex bytes c → AllByRecursion FitsEntry c.entries
+entries_fit bytes c (inl none) = subst (AllByRecursion FitsEntry) (sym none.0) tt
+entries_fit bytes c (inr has) = has.fit
+
 pub archive_timely : (files : Files) (c : ArchiveContents) → IsArchive files c → (t : Moment) → IsStampIn c t → IsMoment t
 archive_timely files c is t (inl (x, has, same)) = subst IsMoment same (at_of IsTimely (items_of c.volumes) x (all_timely files c.label c.volumes is.volumes) has)
-archive_timely files c is t (inr (indom, pairs, has)) =
+archive_timely files c is t (inr (inl (indom, pairs, has))) =
     at_of IsTimelyRecord c.records (Domain t indom pairs) (each_read IsRecord IsTimelyRecord record_timely is.meta.holds.payloads c.records is.meta.holds.read) has
+archive_timely files c is t (inr (inr (e, has, same))) = subst IsMoment same (at_of FitsEntry c.entries e (entries_fit (files Index) c is.index) has).moment
 
 pub one_contents : (files : Files) (c d : ArchiveContents) → IsArchive files c → IsArchive files d → c ≡ d
 one_contents files c d x y = let same : ArchiveReading.archive c ≡ ArchiveReading.archive d = one_reading files (ArchiveReading.archive c) (ArchiveReading.archive d) x y in cc

@@ -1,5 +1,5 @@
 -- A flush and a switch, as wholes.
-use Rattle.std.proofs.Common.{◌≡◌, ℕ, ◌+◌, ◌<◌, ◌≤◌, true, false, [], ◌++◌, length, Option, None, Some, refl, sym, ap, ◌∙◌, subst, append_assoc, arith}
+use Rattle.std.proofs.Common.{◌≡◌, ℕ, ◌+◌, Bool, nat_lt, ◌<◌, ◌≤◌, true, false, [], ◌++◌, length, Option, None, Some, refl, sym, ap, ◌∙◌, subst, append_assoc, arith}
 use Rattle.std.specs.Prelude.{option_to_list, pos, Result, Ok, Err, IfOk}
 use Rattle.pcp_model.specs.Labels.{label}
 use Rattle.std.proofs.lemmas.List.{append-nil}
@@ -11,12 +11,12 @@ use Rattle.pcp_model.specs.Disk.{Files, Holdings}
 use Rattle.pcp_model.specs.LabelFields.{LabelFields}
 use Rattle.logger_core.specs.declared.ends.Ends.{Ends}
 use Rattle.logger_core.specs.LogSteps.{base_files, entries_put, switch_entry, with_new_volume}
-use Rattle.logger_core.specs.Meant.{Meant, AreEnds, IsAt, SurvivesOf, items_in}
+use Rattle.logger_core.specs.Meant.{Meant, AreEnds, IsAt, SurvivesOf, items_in, stood_in}
 use Rattle.logger_core.specs.Going.{HasRoomIfAny, LeadsToEnds, LeadIfAny, IsVolumeSure, GrowsBy, GrownTo, FlushIsDone, all_acknowledged}
-use Rattle.logger_core.specs.Planning.{due_at, switch_at}
+use Rattle.logger_core.specs.Planning.{due_at, has_stood, switch_at}
 use Rattle.logger_core.specs.Runs.{IsReady}
-use Rattle.logger_core.specs.Steps.{IsGreatest, due, due_in, up_to, last_entry, with_entry}
-use Rattle.logger_core.proofs.Dues.{Due, due_is, due_capped, fitting_is, room_if_any, lead_if_any}
+use Rattle.logger_core.specs.Steps.{due, due_in, up_to, last_entry, with_entry}
+use Rattle.logger_core.proofs.Dues.{Due, due_is, fitting_is, lead_if_any, room_if_any, some_capped, some_of}
 use Rattle.logger_core.specs.Keeps.{Start}
 use Rattle.logger_core.specs.Laws.{Survives}
 use Rattle.logger_core.proofs.Pointwise.{added_same, entry_same}
@@ -24,41 +24,46 @@ use Rattle.logger_core.proofs.Rests.{few_acknowledged, survives_same}
 
 -- ---- the entry of a flush
 
-pub due_room : (e : Ends) → HasRoomIfAny e (due e.greatest e.logged e.entry e.index e.volume e.meta e.length)
-due_room e = room_if_any e (due e.greatest e.logged e.entry e.index e.volume e.meta e.length) (λ x is.
-    let d : Due e.greatest e.logged e.index e.volume e.meta e.length x = due_is e.greatest e.logged e.entry e.index e.volume e.meta e.length x is in
+pub due_room : (e : Ends) → HasRoomIfAny e (due_at e)
+due_room e = room_if_any e (due_at e) (λ x is.
+    let d : Due e.greatest e.index e.volume e.meta e.length x = due_is e.greatest (has_stood e) e.entry e.index e.volume e.meta e.length x is in
     record { index = d.room; meta = omega (arith, d.meta_small, ap (λ (y : Entry). y.meta) d.is); offset = omega (arith, d.offset_small, ap (λ (y : Entry). y.offset) d.is) })
 
 -- an entry up to the ends, stamped with the greatest stamp, leads there
 leads : (m : Meant) (e : Ends) (held : Holdings) (t : Moment) (x : Entry) → IsAt m e held → IsVolumeSure e.volume held → e.greatest ≡ Some t → x ≡ up_to t e.volume e.meta e.length → LeadsToEnds m e held x
 leads m e held t x at sure stamped is =
-    let greatest : IsGreatest m.contents (Some t) = subst (IsGreatest m.contents) stamped at.ends.greatest in
-    subst (LeadsToEnds m e held) (sym is) record { volume = refl; at_meta = refl; at_volume = refl; volume_sure = sure; domains = greatest.2; items = greatest.1 }
+    subst (LeadsToEnds m e held) (sym is) record { volume = refl; at_meta = refl; at_volume = refl; volume_sure = sure; stamped = sym at.ends.greatest ∙ stamped }
 
-pub due_leads : (m : Meant) (e : Ends) (held : Holdings) → IsAt m e held → IsVolumeSure e.volume held → LeadIfAny m e held (due e.greatest e.logged e.entry e.index e.volume e.meta e.length)
-due_leads m e held at sure = lead_if_any m e held (due e.greatest e.logged e.entry e.index e.volume e.meta e.length) (λ x is.
-    let d : Due e.greatest e.logged e.index e.volume e.meta e.length x = due_is e.greatest e.logged e.entry e.index e.volume e.meta e.length x is in
+pub due_leads : (m : Meant) (e : Ends) (held : Holdings) → IsAt m e held → IsVolumeSure e.volume held → LeadIfAny m e held (due_at e)
+due_leads m e held at sure = lead_if_any m e held (due_at e) (λ x is.
+    let d : Due e.greatest e.index e.volume e.meta e.length x = due_is e.greatest (has_stood e) e.entry e.index e.volume e.meta e.length x is in
     leads m e held d.t x at sure d.stamped d.is)
 
--- what is due by the numbers is due by the files
-pub due_same : (m : Meant) (e : Ends) → AreEnds m e → due e.greatest e.logged e.entry e.index e.volume e.meta e.length ≡ due_in m.files m.contents e.volume e.greatest
-due_same m e ends =
-    ap (λ (n : ℕ). due e.greatest n e.entry e.index e.volume e.meta e.length) ends.logged
-    ∙ due_capped e.greatest (length (items_in m)) e.entry e.index e.volume e.meta e.length
-    ∙ ap (λ (o : Option Entry). due e.greatest (length (items_in m)) o e.index e.volume e.meta e.length) ends.entry
-    ∙ ap (λ (n : ℕ). due e.greatest (length (items_in m)) (last_entry m.contents.entries) n e.volume e.meta e.length) ends.index
-    ∙ ap (λ (n : ℕ). due e.greatest (length (items_in m)) (last_entry m.contents.entries) (length (m.files Index)) e.volume n e.length) ends.meta
-    ∙ ap (λ (n : ℕ). due e.greatest (length (items_in m)) (last_entry m.contents.entries) (length (m.files Index)) e.volume (length (m.files Meta)) n) ends.length_is
+-- an item stood by the numbers where one did by what is meant
+pub stood_same : (m : Meant) (e : Ends) → AreEnds m e → has_stood e ≡ stood_in m
+stood_same m e ends = ap (nat_lt 0) ends.logged ∙ some_capped (m.gone + length (items_in m)) ∙ some_of m.gone (length (items_in m))
 
-module _ (m : Meant) (e synced now : Ends) (held new : Holdings) (at : IsAt m e held) (same : synced.volume ≡ e.volume) (same_greatest : synced.greatest ≡ e.greatest) (ends : AreEnds (all_acknowledged m) synced)
-    (g : GrownTo (all_acknowledged m) [] (option_to_list (due synced.greatest synced.logged synced.entry synced.index synced.volume synced.meta synced.length)) [] (with_entry (due synced.greatest synced.logged synced.entry synced.index synced.volume synced.meta synced.length) m.files) now new) where
-  due_is_same : due synced.greatest synced.logged synced.entry synced.index synced.volume synced.meta synced.length ≡ due_in m.files m.contents e.volume e.greatest
-  due_is_same = due_same (all_acknowledged m) synced ends ∙ ap (λ (n : ℕ). due_in m.files m.contents n synced.greatest) same ∙ ap (λ (t : Option Moment). due_in m.files m.contents e.volume t) same_greatest
+-- what is due by the numbers is due by the files
+pub due_same : (m : Meant) (e : Ends) → AreEnds m e → due_at e ≡ due_in m.files m.contents e.volume m.greatest (stood_in m)
+due_same m e ends =
+    ap (λ (g : Option Moment). due g (has_stood e) e.entry e.index e.volume e.meta e.length) ends.greatest
+    ∙ ap (λ (b : Bool). due m.greatest b e.entry e.index e.volume e.meta e.length) (stood_same m e ends)
+    ∙ ap (λ (o : Option Entry). due m.greatest (stood_in m) o e.index e.volume e.meta e.length) ends.entry
+    ∙ ap (λ (n : ℕ). due m.greatest (stood_in m) (last_entry m.contents.entries) n e.volume e.meta e.length) ends.index
+    ∙ ap (λ (n : ℕ). due m.greatest (stood_in m) (last_entry m.contents.entries) (length (m.files Index)) e.volume n e.length) ends.meta
+    ∙ ap (λ (n : ℕ). due m.greatest (stood_in m) (last_entry m.contents.entries) (length (m.files Index)) e.volume (length (m.files Meta)) n) ends.length_is
+
+module _ (m : Meant) (e synced now : Ends) (held new : Holdings) (at : IsAt m e held) (same : synced.volume ≡ e.volume) (put_same : now.greatest ≡ synced.greatest) (ends : AreEnds (all_acknowledged m) synced)
+    (g : GrownTo (all_acknowledged m) [] (option_to_list (due_at synced)) [] (with_entry (due_at synced) m.files) now new) where
+  due_is_same : due_at synced ≡ due_in m.files m.contents e.volume m.greatest (stood_in m)
+  due_is_same = due_same (all_acknowledged m) synced ends ∙ ap (λ (n : ℕ). due_in m.files m.contents n m.greatest (stood_in m)) same
 
   pub flushed : FlushIsDone m e now new
   flushed = record {
     new = g.0.new;
     started = g.0.started;
+    gone_is = g.0.gone_is;
+    greatest_is = sym g.1.greatest ∙ put_same ∙ ends.greatest;
     files_are = λ file. g.0.files_are file ∙ ap (λ o. with_entry o m.files file) due_is_same;
     label_same = g.0.longer.label;
     records_same = g.0.longer.records ∙ append-nil m.contents.records;
@@ -67,6 +72,10 @@ module _ (m : Meant) (e synced now : Ends) (held new : Holdings) (at : IsAt m e 
     all = g.0.acknowledged_is;
     at = record { stands = g.0.stands; ends = g.1 };
   }
+
+-- all that stands is acknowledged then
+pub all_flushed : (m : Meant) (e after : Ends) (held : Holdings) → (f : FlushIsDone m e after held) → f.new.acknowledged ≡ length (items_in f.new)
+all_flushed m e after held f = f.all ∙ ap length (sym f.items_same)
 
 -- ---- the entry of a switch
 
@@ -89,19 +98,19 @@ switch_leads m e held at sure size = lead_if_any m e held (switch_entry e.greate
 
 module _ (m : Meant) (l : LabelFields) (e flush : Ends) (mid : Holdings) (same_label : m.contents.label ≡ l) (f : FlushIsDone m e flush mid) (numbers : flush.volume ≡ e.volume) where
   abbrev flushed_files : Files
-  flushed_files = with_entry (due_in m.files m.contents e.volume e.greatest) m.files
+  flushed_files = with_entry (due_in m.files m.contents e.volume m.greatest (stood_in m)) m.files
 
   pub opened_files : (file : FileId) → with_new_volume l (flush.volume + 1) f.new.files file ≡ with_new_volume m.contents.label (e.volume + 1) flushed_files file
   opened_files file =
       ap (λ (n : ℕ). with_new_volume l (n + 1) f.new.files file) numbers ∙ ap (λ x. with_new_volume x (e.volume + 1) f.new.files file) (sym same_label)
       ∙ added_same (Volume (e.volume + 1)) (label m.contents.label (pos (e.volume + 1))) f.new.files flushed_files f.files_are file
 
-  module _ (open_ : Ends) (held : Holdings) (o : GrownTo f.new [] [] [] (with_new_volume l (flush.volume + 1) f.new.files) open_ held) (open_number : open_.volume ≡ flush.volume + 1) (open_greatest : open_.greatest ≡ flush.greatest) (greatest_same : flush.greatest ≡ e.greatest) where
+  module _ (open_ : Ends) (held : Holdings) (o : GrownTo f.new [] [] [] (with_new_volume l (flush.volume + 1) f.new.files) open_ held) (open_number : open_.volume ≡ flush.volume + 1) (open_greatest : open_.greatest ≡ flush.greatest) where
     number_is : open_.volume ≡ e.volume + 1
     number_is = open_number ∙ ap (λ (n : ℕ). n + 1) numbers
 
-    greatest_is : open_.greatest ≡ e.greatest
-    greatest_is = open_greatest ∙ greatest_same
+    greatest_is : open_.greatest ≡ m.greatest
+    greatest_is = open_greatest ∙ f.at.ends.greatest ∙ f.greatest_is
 
     opened_are : (file : FileId) → o.0.new.files file ≡ with_new_volume m.contents.label (e.volume + 1) flushed_files file
     opened_are file = o.0.files_are file ∙ opened_files file
@@ -112,30 +121,32 @@ module _ (m : Meant) (l : LabelFields) (e flush : Ends) (mid : Holdings) (same_l
     meta_is : open_.meta ≡ length (flushed_files Meta)
     meta_is = o.1.meta ∙ ap length (opened_are Meta)
 
-    entry_is : switch_entry open_.greatest open_.index open_.volume open_.meta ≡ switch_entry e.greatest (length (flushed_files Index)) (e.volume + 1) (length (flushed_files Meta))
+    entry_is : switch_entry open_.greatest open_.index open_.volume open_.meta ≡ switch_entry m.greatest (length (flushed_files Index)) (e.volume + 1) (length (flushed_files Meta))
     entry_is =
         ap (λ (t : Option Moment). switch_entry t open_.index open_.volume open_.meta) greatest_is
-        ∙ ap (λ (n : ℕ). switch_entry e.greatest n open_.volume open_.meta) index_is
-        ∙ ap (λ (n : ℕ). switch_entry e.greatest (length (flushed_files Index)) n open_.meta) number_is
-        ∙ ap (λ (n : ℕ). switch_entry e.greatest (length (flushed_files Index)) (e.volume + 1) n) meta_is
+        ∙ ap (λ (n : ℕ). switch_entry m.greatest n open_.volume open_.meta) index_is
+        ∙ ap (λ (n : ℕ). switch_entry m.greatest (length (flushed_files Index)) n open_.meta) number_is
+        ∙ ap (λ (n : ℕ). switch_entry m.greatest (length (flushed_files Index)) (e.volume + 1) n) meta_is
 
-    pub switched_base : (file : FileId) → with_entry (switch_entry open_.greatest open_.index open_.volume open_.meta) o.0.new.files file ≡ base_files true m.files m.contents e.volume e.greatest file
+    pub switched_base : (file : FileId) → with_entry (switch_entry open_.greatest open_.index open_.volume open_.meta) o.0.new.files file ≡ base_files true m.files m.contents e.volume m.greatest (stood_in m) file
     switched_base file =
         ap (λ x. with_entry x o.0.new.files file) entry_is
-        ∙ entry_same (switch_entry e.greatest (length (flushed_files Index)) (e.volume + 1) (length (flushed_files Meta))) o.0.new.files (with_new_volume m.contents.label (e.volume + 1) flushed_files) opened_are file
+        ∙ entry_same (switch_entry m.greatest (length (flushed_files Index)) (e.volume + 1) (length (flushed_files Meta))) o.0.new.files (with_new_volume m.contents.label (e.volume + 1) flushed_files) opened_are file
 
-    module _ (now : Ends) (new : Holdings) (now_number : now.volume ≡ open_.volume) (few : m.acknowledged ≤ length (items_in m))
+    module _ (now : Ends) (new : Holdings) (now_number : now.volume ≡ open_.volume) (now_greatest : now.greatest ≡ open_.greatest) (few : m.acknowledged ≤ length (items_in m))
         (g : GrownTo o.0.new [] (option_to_list (switch_entry open_.greatest open_.index open_.volume open_.meta)) [] (with_entry (switch_entry open_.greatest open_.index open_.volume open_.meta) o.0.new.files) now new) where
-      switched_entries : g.0.new.contents.entries ≡ m.contents.entries ++ entries_put true m.files m.contents e.volume e.greatest
+      switched_entries : g.0.new.contents.entries ≡ m.contents.entries ++ entries_put true m.files m.contents e.volume m.greatest (stood_in m)
       switched_entries =
           g.0.longer.entries ∙ ap (λ x. o.0.new.contents.entries ++ option_to_list x) entry_is
-          ∙ ap (λ es. es ++ option_to_list (switch_entry e.greatest (length (flushed_files Index)) (e.volume + 1) (length (flushed_files Meta)))) (o.0.longer.entries ∙ append-nil f.new.contents.entries ∙ f.entries_are)
-          ∙ append_assoc m.contents.entries (option_to_list (due_in m.files m.contents e.volume e.greatest)) (option_to_list (switch_entry e.greatest (length (flushed_files Index)) (e.volume + 1) (length (flushed_files Meta))))
+          ∙ ap (λ es. es ++ option_to_list (switch_entry m.greatest (length (flushed_files Index)) (e.volume + 1) (length (flushed_files Meta)))) (o.0.longer.entries ∙ append-nil f.new.contents.entries ∙ f.entries_are)
+          ∙ append_assoc m.contents.entries (option_to_list (due_in m.files m.contents e.volume m.greatest (stood_in m))) (option_to_list (switch_entry m.greatest (length (flushed_files Index)) (e.volume + 1) (length (flushed_files Meta))))
 
       pub switched_ready : IsReady m e now true new
       switched_ready = record {
         new = g.0.new;
         started = g.0.started ∙ o.0.started ∙ f.started;
+        gone_is = g.0.gone_is ∙ o.0.gone_is ∙ f.gone_is;
+        greatest_is = sym g.1.greatest ∙ now_greatest ∙ greatest_is;
         label_same = g.0.longer.label ∙ o.0.longer.label ∙ f.label_same;
         records_same = g.0.longer.records ∙ append-nil o.0.new.contents.records ∙ o.0.longer.records ∙ append-nil f.new.contents.records ∙ f.records_same;
         entries_are = switched_entries;
@@ -148,7 +159,7 @@ module _ (m : Meant) (l : LabelFields) (e flush : Ends) (mid : Holdings) (same_l
       }
 
 pub ready_already : (m : Meant) (e : Ends) (held : Holdings) → IsAt m e held → IsReady m e e false held
-ready_already m e held at = record { new = m; started = refl; label_same = refl; records_same = refl; entries_are = sym (append-nil m.contents.entries); items_same = refl; still = omega arith; acknowledged_is = refl; files_are = λ file. refl; number = refl; at = at }
+ready_already m e held at = record { new = m; started = refl; gone_is = refl; greatest_is = refl; label_same = refl; records_same = refl; entries_are = sym (append-nil m.contents.entries); items_same = refl; still = omega arith; acknowledged_is = refl; files_are = λ file. refl; number = refl; at = at }
 
 -- ---- the same with what was found due
 
@@ -162,11 +173,12 @@ found_room e o is = subst (HasRoomIfAny e) (sym is) (due_room e)
 pub found_leads : (m : Meant) (e : Ends) (held : Holdings) (o : Option Entry) → o ≡ due_at e → IsAt m e held → IsVolumeSure e.volume held → LeadIfAny m e held o
 found_leads m e held o is at sure = subst (LeadIfAny m e held) (sym is) (due_leads m e held at sure)
 
-pub flush_ok : {E : Type 0} (m : Meant) (e synced : Ends) (held new : Holdings) (o : Option Entry) (result : Result Ends E) → o ≡ due_at synced → IsAt m e held → synced.volume ≡ e.volume → synced.greatest ≡ e.greatest → AreEnds (all_acknowledged m) synced
-    → IfOk result (λ now. GrownTo (all_acknowledged m) [] (option_to_list o) [] (with_entry o m.files) now new) → IfOk result (λ now. FlushIsDone m e now new)
-flush_ok m e synced held new o result is at same same_greatest ends grown =
-    ok_map result (λ now. GrownTo (all_acknowledged m) [] (option_to_list o) [] (with_entry o m.files) now new) (λ now. FlushIsDone m e now new) grown
-    (λ now g. flushed m e synced now held new at same same_greatest ends (subst (λ (p : Option Entry). GrownTo (all_acknowledged m) [] (option_to_list p) [] (with_entry p m.files) now new) is g))
+pub flush_ok : {E : Type 0} (m : Meant) (e synced : Ends) (held new : Holdings) (o : Option Entry) (result : Result Ends E) → o ≡ due_at synced → IsAt m e held → synced.volume ≡ e.volume → AreEnds (all_acknowledged m) synced
+    → IfOk result (λ now. (now.volume ≡ synced.volume) × (now.greatest ≡ synced.greatest) × (now.meta ≡ synced.meta) × (now.length ≡ synced.length)) → IfOk result (λ now. GrownTo (all_acknowledged m) [] (option_to_list o) [] (with_entry o m.files) now new)
+    → IfOk result (λ now. FlushIsDone m e now new)
+flush_ok m e synced held new o (Ok now) is at same ends kept g =
+    flushed m e synced now held new at same kept.1 ends (subst (λ (p : Option Entry). GrownTo (all_acknowledged m) [] (option_to_list p) [] (with_entry p m.files) now new) is g)
+flush_ok m e synced held new o (Err x) is at same ends kept g = tt
 
 -- nothing was put
 pub none_put : (m : Meant) (e : Ends) (held : Holdings) → IsAt m e held → GrownTo m [] [] [] m.files e held
@@ -175,6 +187,7 @@ none_put m e held at = (
     new = m;
     started = refl;
     acknowledged_is = refl;
+    gone_is = refl;
     longer = record { label = refl; records = sym (append-nil m.contents.records); entries = sym (append-nil m.contents.entries); items = sym (append-nil (items_in m)) };
     files_are = λ file. refl;
     stands = at.stands;
@@ -200,9 +213,9 @@ pub switch_found_leads : (m : Meant) (e : Ends) (held : Holdings) (o : Option En
 switch_found_leads m e held o is at sure size = subst (LeadIfAny m e held) (sym is) (switch_leads m e held at sure size)
 
 pub switch_ok : {E : Type 0} (m : Meant) (l : LabelFields) (e flush open_ : Ends) (held mid mid2 new : Holdings) (found : Option Entry) (result : Result Ends E) → IsAt m e held → m.contents.label ≡ l → (f : FlushIsDone m e flush mid) → (o : GrownTo f.new [] [] [] (with_new_volume l (flush.volume + 1) f.new.files) open_ mid2)
-    → flush.volume ≡ e.volume → open_.volume ≡ flush.volume + 1 → open_.greatest ≡ flush.greatest → flush.greatest ≡ e.greatest → found ≡ switch_at open_
+    → flush.volume ≡ e.volume → open_.volume ≡ flush.volume + 1 → open_.greatest ≡ flush.greatest → found ≡ switch_at open_
     → IfOk result (λ now. GrownTo o.0.new [] (option_to_list found) [] (with_entry found o.0.new.files) now new) → IfOk result (λ now. (now.volume ≡ open_.volume) × (now.greatest ≡ open_.greatest) × (now.meta ≡ open_.meta) × (now.length ≡ open_.length)) → IfOk result (λ now. IsReady m e now true new)
-switch_ok m l e flush open_ held mid mid2 new found (Ok now) at same f o numbers number stamp greatest is g kept =
-    switched_ready m l e flush mid same f numbers open_ mid2 o number stamp greatest now new kept.0 (few_acknowledged m e.volume held at.stands)
+switch_ok m l e flush open_ held mid mid2 new found (Ok now) at same f o numbers number stamp is g kept =
+    switched_ready m l e flush mid same f numbers open_ mid2 o number stamp now new kept.0 kept.1 (few_acknowledged m e.volume held at.stands)
     (subst (λ (p : Option Entry). GrownTo o.0.new [] (option_to_list p) [] (with_entry p o.0.new.files) now new) is g)
-switch_ok m l e flush open_ held mid mid2 new found (Err x) at same f o numbers number stamp greatest is g kept = tt
+switch_ok m l e flush open_ held mid mid2 new found (Err x) at same f o numbers number stamp is g kept = tt

@@ -26,6 +26,10 @@ use Rattle.logger_core.proofs.Nearer.{all_acknowledged}
 pub next_contains : {X : Type 0} (y : X) (ys : List X) (x : X) → Contains ys x → Contains (y ∷ ys) x
 next_contains y ys x c = (suc c.0, omega (arith, c.1), c.2)
 
+pub contains_last : {X : Type 0} (xs : List X) (x : X) → Contains (xs ++ x ∷ []) x
+contains_last [] x = (0, omega arith, refl)
+contains_last (y ∷ ys) x = next_contains y (ys ++ x ∷ []) x (contains_last ys x)
+
 pub each_contained : {X : Type 0} (xs : List X) → AllByRecursion (λ x. Contains xs x) xs
 each_contained [] = tt
 each_contained (x ∷ xs) = ((0, omega arith, refl), each-map (λ y. Contains xs y) (λ y. Contains (x ∷ xs) y) (λ y c. next_contains x xs y c) xs (each_contained xs))
@@ -73,7 +77,7 @@ module _ (files : Files) (c : ArchiveContents) (number : ℕ) (held : Holdings) 
   described k le = each-map (λ x. Contains (items_of c.volumes) x) (λ x. WasDescribed start x → Described (take k c.records) x)
       (λ x there was. subst (λ rs. Described rs x) (sym (take_all k c.records le)) (was there)) (items_of c.volumes) (each_contained (items_of c.volumes))
 
-  kept_at_first : Keeps start files c number (length c.records) 0 held
+  kept_at_first : Keeps start files c number (length c.records) (length (items_of w.last.before)) held
   kept_at_first = record {
     is = w.is;
     last = w.last;
@@ -90,7 +94,8 @@ module _ (files : Files) (c : ArchiveContents) (number : ℕ) (held : Holdings) 
     labelled = labelled;
     points = λ was. each-map (IsSoundEntry files c) (PointsSurely files held number) points c.entries was.1;
     items = inl (omega arith);
+    earlier = omega arith;
   }
 
   pub whole_is_kept : Keeps start files c number (length c.records) (length (items_of c.volumes)) held
-  whole_is_kept = all_acknowledged start files c number (length c.records) 0 held kept_at_first (w.sure (Volume number))
+  whole_is_kept = all_acknowledged start files c number (length c.records) (length (items_of w.last.before)) held kept_at_first (w.sure (Volume number))

@@ -25,7 +25,7 @@ abbrev pub no_items : LabelFields → ArchiveContents
 no_items l = record { label = l; records = []; entries = []; volumes = (0, []) ∷ [] }
 
 abbrev pub new_archive : LabelFields → Meant
-new_archive l = record { start = record { files = created_files l; reading = ArchiveReading.archive (no_items l) }; files = created_files l; contents = no_items l; acknowledged = 0 }
+new_archive l = record { start = record { files = created_files l; reading = ArchiveReading.archive (no_items l) }; files = created_files l; contents = no_items l; acknowledged = 0; gone = 0; greatest = None }
 
 abbrev pub first_ends : Ends
 first_ends = record { meta = 132; index = 132; volume = 0; length = 132; greatest = None; entry = None; logged = 0; acknowledged = 0 }

@@ -7,9 +7,8 @@ use Rattle.pcp_model.specs.declared.records.Entry.{Entry}
 use Rattle.pcp_model.specs.declared.records.MetaRecord.{MetaRecord}
 use Rattle.pcp_model.specs.Disk.{Files, Holdings, bytes_of}
 use Rattle.pcp_model.specs.Laws.{IsLonger}
-use Rattle.pcp_model.specs.Sound.{NoItemAfter, NoDomainAfter}
 use Rattle.logger_core.specs.declared.ends.Ends.{Ends}
-use Rattle.logger_core.specs.Meant.{Meant, items_in, AreEnds, Stands, IsAt, Kept, IsLogger}
+use Rattle.logger_core.specs.Meant.{Meant, items_in, stood_in, AreEnds, Stands, IsAt, Kept, IsLogger}
 use Rattle.logger_core.specs.Steps.{FlushStep, due_in, with_entry}
 
 -- no count of bytes is near what 64 bits hold, and the volume's number fits a label
@@ -26,7 +25,7 @@ pub record IsReachable (e : Ends) (limit : ℕ) : Type 0 where
 
 -- the same, with so many items acknowledged
 abbrev pub acknowledging : ℕ → Meant → Meant
-acknowledging n m = record { start = m.start; files = m.files; contents = m.contents; acknowledged = n }
+acknowledging n m = record { start = m.start; files = m.files; contents = m.contents; acknowledged = n; gone = m.gone; greatest = m.greatest }
 
 -- all items are acknowledged
 abbrev pub all_acknowledged : Meant → Meant
@@ -49,11 +48,12 @@ counting_all l = record { label = l.label; records = l.records; ends = all_count
 abbrev pub IsVolumeSure : ℕ → Holdings → Type 0
 IsVolumeSure number held = (held (Volume number)).rest ≡ []
 
--- these files are meant now, with these records, entries and items behind those that were
+-- these files are meant now, with these records, entries and items behind those that were; no more items are gone
 pub record GrowsBy (m : Meant) (records : List MetaRecord) (entries : List Entry) (items : List Item) (files : Files) (number : ℕ) (held : Holdings) : Type 0 where
   pub new : Meant
   pub started : new.start ≡ m.start
   pub acknowledged_is : new.acknowledged ≡ m.acknowledged
+  pub gone_is : new.gone ≡ m.gone
   pub longer : IsLonger m.contents new.contents records entries items
   pub files_are : (file : FileId) → new.files file ≡ files file
   pub stands : Stands new number held
@@ -62,14 +62,13 @@ pub record GrowsBy (m : Meant) (records : List MetaRecord) (entries : List Entry
 abbrev pub GrownTo : Meant → List MetaRecord → List Entry → List Item → Files → Ends → Holdings → Type 0
 GrownTo m records entries items files e held = (g : GrowsBy m records entries items files e.volume held) × AreEnds g.new e
 
--- An entry leads up to the ends of the files, which are sure, and nothing is stamped after it.
+-- An entry leads up to the ends of the files, which are sure, and has the greatest stamp.
 pub record LeadsToEnds (m : Meant) (e : Ends) (held : Holdings) (x : Entry) : Type 0 where
   pub volume : x.volume ≡ e.volume
   pub at_meta : x.meta ≡ e.meta
   pub at_volume : x.offset ≡ e.length
   pub volume_sure : IsVolumeSure e.volume held
-  pub domains : NoDomainAfter x.stamp m.contents.records
-  pub items : NoItemAfter x.stamp (items_in m)
+  pub stamped : m.greatest ≡ Some x.stamp
 
 abbrev pub LeadIfAny : Meant → Ends → Holdings → Option Entry → Type 0
 LeadIfAny m e held None = Unit {0}
@@ -89,10 +88,12 @@ HasRoomIfAny e (Some x) = HasRoom e x
 pub record FlushIsDone (m : Meant) (e after : Ends) (held : Holdings) : Type 0 where
   pub new : Meant
   pub started : new.start ≡ m.start
-  pub files_are : (file : FileId) → new.files file ≡ with_entry (due_in m.files m.contents e.volume e.greatest) m.files file
+  pub gone_is : new.gone ≡ m.gone
+  pub greatest_is : new.greatest ≡ m.greatest
+  pub files_are : (file : FileId) → new.files file ≡ with_entry (due_in m.files m.contents e.volume m.greatest (stood_in m)) m.files file
   pub label_same : new.contents.label ≡ m.contents.label
   pub records_same : new.contents.records ≡ m.contents.records
-  pub entries_are : new.contents.entries ≡ m.contents.entries ++ option_to_list (due_in m.files m.contents e.volume e.greatest)
+  pub entries_are : new.contents.entries ≡ m.contents.entries ++ option_to_list (due_in m.files m.contents e.volume m.greatest (stood_in m))
   pub items_same : items_in new ≡ items_in m
   pub all : new.acknowledged ≡ length (items_in m)
   pub at : IsAt new after held
@@ -101,7 +102,10 @@ pub record FlushIsDone (m : Meant) (e after : Ends) (held : Holdings) : Type 0 w
 pub record IsFlushed (m : Meant) (old now : Kept) (held : Holdings) : Type 0 where
   pub new : Meant
   pub started : new.start ≡ m.start
-  pub step : FlushStep m.files m.contents old.ends.volume new.files
+  pub gone_is : new.gone ≡ m.gone
+  pub greatest_is : new.greatest ≡ m.greatest
+  pub step : FlushStep m.files m.contents old.ends.volume m.greatest (stood_in m) new.files
+  pub entries_are : new.contents.entries ≡ m.contents.entries ++ option_to_list (due_in m.files m.contents old.ends.volume m.greatest (stood_in m))
   pub items_same : items_in new ≡ items_in m
   pub all : new.acknowledged ≡ length (items_in m)
   pub is : IsLogger new now held

@@ -20,7 +20,7 @@ use Rattle.logger_core.specs.declared.fault.LogFault.TheVariants.{Closed, Large,
 use Rattle.logger_core.specs.Going.{HoldsNoMore, acknowledged_before}
 use Rattle.logger_core.specs.Logging.{IsLogged, IsLoggable, IsRefused, closed_with}
 use Rattle.logger_core.specs.LogSteps.{LogStep, base_number, crosses, entries_put}
-use Rattle.logger_core.specs.Meant.{Meant, Kept, IsLogger}
+use Rattle.logger_core.specs.Meant.{Meant, Kept, IsLogger, stood_in}
 use Rattle.logger_core.specs.Planning.{planned_ends}
 
 -- a result, and the facts that describe it
@@ -44,8 +44,10 @@ samples_of (g ∷ group) = Sample g.0 ∷ samples_of group
 -- One result was logged: what was meant becomes this, and this volume is then written.
 pub record LogsOne (m : Meant) (number limit : ℕ) (answer : PmResult) (facts : Facts) (n : Meant) (next : ℕ) : Type 0 where
   pub started : n.start ≡ m.start
-  pub step : LogStep m.files m.contents number limit answer facts n.files
-  pub longer : IsLonger m.contents n.contents step.missing (entries_put step.crossing m.files m.contents number step.greatest) (Sample answer ∷ [])
+  pub gone_is : n.gone ≡ m.gone
+  pub greatest_is : n.greatest ≡ Some answer.stamp
+  pub step : LogStep m.files m.contents number m.greatest (stood_in m) limit answer facts n.files
+  pub longer : IsLonger m.contents n.contents step.missing (entries_put step.crossing m.files m.contents number m.greatest (stood_in m)) (Sample answer ∷ [])
   pub still : m.acknowledged ≤ n.acknowledged
   pub acknowledged_is : n.acknowledged ≡ acknowledged_before step.crossing m
   pub next_is : next ≡ base_number step.crossing number

@@ -23,7 +23,7 @@ use Rattle.logger_core.specs.Going.{AreSmall, acknowledged_before}
 use Rattle.logger_core.specs.Grouping.{Told, LogsAll, AreAllEnough, AreLoggable, samples_of}
 use Rattle.logger_core.specs.Logging.{IsMadeOf, IsRefused}
 use Rattle.logger_core.specs.LogSteps.{base_files, crosses, entries_put, with_next, with_run}
-use Rattle.logger_core.specs.Meant.{Meant, Kept, AreEnds, IsAt, items_in}
+use Rattle.logger_core.specs.Meant.{Meant, Kept, AreEnds, IsAt, items_in, stood_in}
 use Rattle.logger_core.specs.Planning.{due_at, ran_ends, ready_ends}
 use Rattle.logger_core.specs.Runs.{IsRunToCome, IsLastStamp}
 use Rattle.logger_core.specs.Steps.{with_entry}
@@ -95,18 +95,22 @@ AreRunsBounded e (run ∷ runs) = IsRunBounded e run × AreRunsBounded (after_ru
 -- the archive in whose last volume a run has its place: the same, or after a switch
 pub record IsBase (m : Meant) (e : Ends) (crossing : Bool) (n : Meant) : Type 0 where
   pub started : n.start ≡ m.start
+  pub gone_is : n.gone ≡ m.gone
+  pub greatest_is : n.greatest ≡ m.greatest
   pub label_same : n.contents.label ≡ m.contents.label
   pub records_same : n.contents.records ≡ m.contents.records
-  pub entries_are : n.contents.entries ≡ m.contents.entries ++ entries_put crossing m.files m.contents e.volume e.greatest
+  pub entries_are : n.contents.entries ≡ m.contents.entries ++ entries_put crossing m.files m.contents e.volume m.greatest (stood_in m)
   pub items_same : items_in n ≡ items_in m
   pub still : m.acknowledged ≤ n.acknowledged
   pub acknowledged_is : n.acknowledged ≡ acknowledged_before crossing m
-  pub files_are : (file : FileId) → n.files file ≡ base_files crossing m.files m.contents e.volume e.greatest file
+  pub files_are : (file : FileId) → n.files file ≡ base_files crossing m.files m.contents e.volume m.greatest (stood_in m) file
 
--- with these records and items behind it
-pub record Grown (n : Meant) (records : List MetaRecord) (items : List Item) (files : Files) (o : Meant) : Type 0 where
+-- with these records and items behind it, the last of them stamped so
+pub record Grown (n : Meant) (records : List MetaRecord) (items : List Item) (stamp : Moment) (files : Files) (o : Meant) : Type 0 where
   pub started : o.start ≡ n.start
   pub acknowledged_is : o.acknowledged ≡ n.acknowledged
+  pub gone_is : o.gone ≡ n.gone
+  pub greatest_is : o.greatest ≡ Some stamp
   pub longer : IsLonger n.contents o.contents records [] items
   pub files_are : (file : FileId) → o.files file ≡ files file
 
@@ -116,7 +120,7 @@ pub record MayRun (m n : Meant) (number next limit : ℕ) (run : Run) (group : L
   pub come : IsRunToCome n records (samples_of group) run.records run.items
   pub last : IsLastStamp n records (samples_of group) run.stamp
   pub now_is : now ≡ n.contents.records ++ records
-  pub all : (o : Meant) → Grown n records (samples_of group) (with_run next run.records run.items n.files) o → LogsAll m number limit group o next
+  pub all : (o : Meant) → Grown n records (samples_of group) run.stamp (with_run next run.records run.items n.files) o → LogsAll m number limit group o next
 
 -- a run of these results
 pub record IsRunOf (records : List MetaRecord) (e : Ends) (limit : ℕ) (run : Run) (group : List Told) (now : List MetaRecord) (after : Ends) : Type 0 where
@@ -145,6 +149,7 @@ AreRuns records e limit (run ∷ runs) group now after =
 pub record RunWritten (m : Meant) (e next : Ends) (limit : ℕ) (runs : List Run) (group : List Told) (now : List MetaRecord) (held : Holdings) : Type 0 where
   pub new : Meant
   pub started : new.start ≡ m.start
+  pub gone_is : new.gone ≡ m.gone
   pub label_same : new.contents.label ≡ m.contents.label
   pub records_are : new.contents.records ≡ now
   pub items_are : items_in new ≡ items_in m ++ samples_of group

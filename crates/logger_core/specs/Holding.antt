@@ -53,6 +53,7 @@ pub record IsHolding (m : Meant) (b : HeldBack) (pending : List Told) (o : Meant
   pub enough : AreAllEnough pending
   pub all : LogsAll m b.kept.ends.volume b.kept.limit pending o b.planned.volume
   pub started : o.start ≡ m.start
+  pub gone_is : o.gone ≡ m.gone
   pub label_same : o.contents.label ≡ m.contents.label
   pub records_are : o.contents.records ≡ b.kept.records
   pub items_are : items_in o ≡ items_in m ++ samples_of pending

@@ -1,6 +1,6 @@
 -- What a logger keeps of its archive: whole files that it means, of which the disk holds a beginning each. Every record of
 -- Meta that describes an item is sure; every entry of the index points into sure bytes; every volume but the one that is
--- written is wholly sure. A crash, a cut and going on keep it so.
+-- written is wholly sure, and all its items are acknowledged. A crash, a cut, going on and retiring volumes keep it so.
 use Rattle.std.specs.Prelude.{◌≡◌, ◌≢◌, ◌⊎◌, ℕ, ◌+◌, ◌≤◌, negsuc, List, [], ◌++◌, length, take, Contains, ◌<◌}
 use Rattle.std.specs.List.{AllByRecursion}
 use Rattle.pcp_base.specs.declared.file.FileId.TheVariants.{Meta, Index, Volume}
@@ -68,3 +68,4 @@ pub record Keeps (s : Start) (files : Files) (c : ArchiveContents) (number known
   pub labelled : (c.entries ≡ []) ⊎ ((n : ℕ) × (132 ≤ length (held (Volume n)).sure))
   pub points : WasSound s → AllByRecursion (PointsSurely files held number) c.entries
   pub items : AreSure (length (items_of last.before)) last.whole.payloads (length (held (Volume number)).sure) acknowledged
+  pub earlier : length (items_of last.before) ≤ acknowledged

@@ -120,15 +120,17 @@ abbrev pub EntryIsAnnounced : Type 0
 EntryIsAnnounced = (s : Start) (files : Files) (c : ArchiveContents) (number known acknowledged : ℕ) (held : Holdings) (e : Entry) → Keeps s files c number known acknowledged held → IsEntryToCome s files c number held e
     → Announces s (with_added Index (entry e) files) c number known acknowledged held [] (e ∷ []) []
 
--- The next volume's label may be meant once the volume that was written is wholly sure, and nothing is of a volume above it.
-pub record IsVolumeToCome (files : Files) (c : ArchiveContents) (number next : ℕ) (held : Holdings) (head : List ℕ) : Type 0 where
+-- The next volume's label may be meant once the volume that was written is wholly sure, all its items are acknowledged, and nothing is
+-- of a volume above it.
+pub record IsVolumeToCome (files : Files) (c : ArchiveContents) (number next acknowledged : ℕ) (held : Holdings) (head : List ℕ) : Type 0 where
   pub above : number < next
   pub label : IsLabel head c.label (pos next)
   pub volume_sure : held (Volume number) ≡ is_sure (files (Volume number))
+  pub all : length (items_of c.volumes) ≤ acknowledged
 
 abbrev pub VolumeIsAnnounced : Type 0
 VolumeIsAnnounced = (s : Start) (files : Files) (c : ArchiveContents) (number next known acknowledged : ℕ) (held : Holdings) (head : List ℕ) → Keeps s files c number known acknowledged held
-    → IsVolumeToCome files c number next held head → Announces s (with_added (Volume next) head files) c next known acknowledged held [] [] []
+    → IsVolumeToCome files c number next acknowledged held head → Announces s (with_added (Volume next) head files) c next known acknowledged held [] [] []
 
 -- A whole archive of which every byte is sure, as recovery and a creation leave it, is kept: all its items are acknowledged.
 pub record IsWhole (files : Files) (c : ArchiveContents) (number : ℕ) (held : Holdings) : Type 0 where

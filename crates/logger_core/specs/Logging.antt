@@ -22,7 +22,7 @@ use Rattle.logger_core.specs.declared.fault.LogFault.TheVariants.{Closed, Large,
 use Rattle.logger_core.specs.declared.preparing.Made.{Made}
 use Rattle.logger_core.specs.Going.{acknowledged_before}
 use Rattle.logger_core.specs.LogSteps.{LogStep, crosses}
-use Rattle.logger_core.specs.Meant.{Meant, Kept, IsLogger, items_in}
+use Rattle.logger_core.specs.Meant.{Meant, Kept, IsLogger, items_in, stood_in}
 
 -- a moment is after the greatest stamp, if there is one
 abbrev pub IsLater : Option Moment → Moment → Type 0
@@ -83,7 +83,9 @@ pub record IsMadeOf (records : List MetaRecord) (e : Ends) (limit : ℕ) (answer
 pub record IsLogged (m : Meant) (old now : Kept) (answer : PmResult) (facts : Facts) (held : Holdings) : Type 0 where
   pub new : Meant
   pub started : new.start ≡ m.start
-  pub step : LogStep m.files m.contents old.ends.volume old.limit answer facts new.files
+  pub gone_is : new.gone ≡ m.gone
+  pub greatest_is : new.greatest ≡ Some answer.stamp
+  pub step : LogStep m.files m.contents old.ends.volume m.greatest (stood_in m) old.limit answer facts new.files
   pub said : new.contents.records ≡ m.contents.records ++ step.missing
   pub items_are : items_in new ≡ items_in m ++ Sample answer ∷ []
   pub still : m.acknowledged ≤ new.acknowledged

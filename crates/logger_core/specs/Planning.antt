@@ -1,5 +1,5 @@
 -- Where the files will end: what the writes of a run leave, in numbers, before any of them is made.
-use Rattle.std.specs.Prelude.{ℕ, ◌+◌, Bool, if◌then◌else◌, Option, None, Some}
+use Rattle.std.specs.Prelude.{ℕ, ◌+◌, Bool, nat_lt, if◌then◌else◌, Option, None, Some}
 use Rattle.pcp_base.specs.Time.{Moment}
 use Rattle.pcp_model.specs.declared.records.Entry.{Entry}
 use Rattle.pcp_outside.specs.Causes.{shown_count}
@@ -8,9 +8,13 @@ use Rattle.logger_core.specs.Going.{all_counted}
 use Rattle.logger_core.specs.LogSteps.{switch_entry}
 use Rattle.logger_core.specs.Steps.{due}
 
+-- an item was logged, at whatever time
+abbrev pub has_stood : Ends → Bool
+has_stood e = nat_lt 0 e.logged
+
 -- the entry that a flush puts behind the index
 abbrev pub due_at : Ends → Option Entry
-due_at e = due e.greatest e.logged e.entry e.index e.volume e.meta e.length
+due_at e = due e.greatest (has_stood e) e.entry e.index e.volume e.meta e.length
 
 -- the entry that leads to the label of the volume that was opened
 abbrev pub switch_at : Ends → Option Entry

@@ -7,7 +7,7 @@ use Rattle.archive_recovery.specs.declared.outcome.Archive.{Archive}
 use Rattle.archive_recovery.specs.Told.{WasRecovered}
 use Rattle.logger_core.specs.declared.ends.Ends.{Ends}
 use Rattle.logger_core.specs.Meant.{Meant, Kept, IsLogger}
-use Rattle.logger_core.specs.Steps.{last_entry}
+use Rattle.logger_core.specs.Steps.{greatest_in, last_entry}
 
 -- this is told of what recovery left, and every byte of it is sure
 pub record IsLeft (archive : Archive) (held : Holdings) : Type 0 where
@@ -19,9 +19,17 @@ pub record IsLeft (archive : Archive) (held : Holdings) : Type 0 where
 abbrev pub ends_of : Archive → Ends
 ends_of a = record { meta = a.meta_length; index = 132 + 20 * length a.index; volume = a.volume; length = a.length; greatest = a.last; entry = last_entry a.index; logged = a.items; acknowledged = a.items }
 
--- an archive as it stood when it was opened: nothing is meant that it doesn't hold
+-- An archive as it stood when it was opened: nothing is meant that it doesn't hold, no item of it is gone, and the files give the greatest
+-- stamp.
 abbrev pub as_found : Files → ArchiveContents → Meant
-as_found files c = record { start = record { files = files; reading = ArchiveReading.archive c }; files = files; contents = c; acknowledged = length (items_of c.volumes) }
+as_found files c = record {
+  start = record { files = files; reading = ArchiveReading.archive c };
+  files = files;
+  contents = c;
+  acknowledged = length (items_of c.volumes);
+  gone = 0;
+  greatest = greatest_in c;
+}
 
 pub record IsReopened (limit : ℕ) (kept : Kept) (held : Holdings) : Type 0 where
   pub contents : ArchiveContents

@@ -1,5 +1,5 @@
 -- What is made of a result and may be written, and what its writing leaves.
-use Rattle.std.specs.Prelude.{◌≡◌, ℕ, ◌+◌, ◌<◌, ◌≤◌, true, false, List, [], ◌∷◌, ◌++◌, length}
+use Rattle.std.specs.Prelude.{◌≡◌, ℕ, ◌+◌, ◌<◌, ◌≤◌, true, false, List, [], ◌∷◌, ◌++◌, length, Some}
 use Rattle.pcp_base.specs.declared.result.Item.TheVariants.{Sample}
 use Rattle.pcp_base.specs.declared.result.PmResult.{PmResult}
 use Rattle.pcp_model.specs.declared.records.MetaRecord.{MetaRecord}
@@ -12,7 +12,7 @@ use Rattle.logger_core.specs.declared.preparing.Made.{Made}
 use Rattle.logger_core.specs.Going.{acknowledged_before}
 use Rattle.logger_core.specs.Logging.{IsMadeOf}
 use Rattle.logger_core.specs.LogSteps.{LogStep}
-use Rattle.logger_core.specs.Meant.{Meant, IsAt, items_in}
+use Rattle.logger_core.specs.Meant.{Meant, IsAt, items_in, stood_in}
 
 -- no count of bytes comes near what 64 bits hold
 pub record IsBounded (e : Ends) (made : Made) : Type 0 where
@@ -31,7 +31,9 @@ pub record MayBeWritten (m : Meant) (e : Ends) (limit : ℕ) (answer : PmResult)
 pub record ItemWritten (m : Meant) (e now : Ends) (limit : ℕ) (answer : PmResult) (facts : Facts) (after : List MetaRecord) (held : Holdings) : Type 0 where
   pub new : Meant
   pub started : new.start ≡ m.start
-  pub step : LogStep m.files m.contents e.volume limit answer facts new.files
+  pub gone_is : new.gone ≡ m.gone
+  pub greatest_is : new.greatest ≡ Some answer.stamp
+  pub step : LogStep m.files m.contents e.volume m.greatest (stood_in m) limit answer facts new.files
   pub said : new.contents.records ≡ m.contents.records ++ step.missing
   pub items_are : items_in new ≡ items_in m ++ Sample answer ∷ []
   pub still : m.acknowledged ≤ new.acknowledged

@@ -2,8 +2,8 @@
 use pcp_base::Stamp;
 use pcp_model::Entry;
 
-/// Where the files of an archive end, in bytes, and which volume is written; the greatest stamp of any item or instance domain;
-/// the index's last entry; how many items stand, and how many of them are acknowledged.
+/// Where the files of an archive end, in bytes, and which volume is written; the greatest stamp of any item, instance domain or entry;
+/// the index's last entry; how many items were logged, and how many of them are acknowledged. Retired items count in all of it.
 #[derive(Clone, Copy)]
 pub struct Ends {
     pub meta: u64,

@@ -1,7 +1,8 @@
 //! Which entry the index gets.
 ghost use Rattle.std.specs.Prelude.{◌≡◌, ◌<◌, IfSome};
+ghost use Rattle.logger_core.specs.Planning.{due_at};
 ghost use Rattle.logger_core.specs.LogSteps.{switch_entry as switch_entry_lem};
-ghost use Rattle.logger_core.specs.Steps.{up_to, fits_index, fitting, is_behind, where_behind, due as due_lem};
+ghost use Rattle.logger_core.specs.Steps.{up_to, fits_index, fitting, is_behind, where_behind};
 
 use crate::ends::Ends;
 use pcp_base::Stamp;
@@ -36,7 +37,7 @@ fn is_behind(last: &Option<Entry>, entry: &Entry) -> bool
 
 /// The entry of a flush.
 pub(crate) fn due(ends: &Ends) -> Option<Entry>
-    ensures { result ≡ due_lem ends.now.greatest ends.now.logged ends.now.entry ends.now.index ends.now.volume ends.now.meta ends.now.length }
+    ensures { result ≡ due_at ends.now }
 {
     let stamp = ends.greatest?;
     if ends.logged == 0 {

@@ -14,7 +14,7 @@ pub enum LogFault {
     /// The framed record, or else a record of Meta that is missing for it, would be longer than 16,777,216 bytes.
     #[error("a record would be {bytes} bytes long")]
     Large { bytes: u64 },
-    /// The result isn't stamped after every item and every instance domain; this is the greatest stamp.
+    /// The result isn't stamped after every item, every instance domain and every entry of the index; this is the greatest stamp.
     #[error("the result isn't stamped after all that stands")]
     NotLater { last: Stamp },
     /// A metric is described otherwise than before, or its name isn't the first one kept.

@@ -5,7 +5,7 @@ ghost use Rattle.pcp_outside.specs.Causes.{HasCause};
 ghost use Rattle.pcp_outside.specs.Devices.{LeavesOnly};
 ghost use Rattle.std.specs.Prelude.{[], ◌∷◌, option_to_list, Some};
 ghost use Rattle.logger_core.specs.Going.{AreSmall, all_acknowledged, all_counted, IsVolumeSure, GrownTo, LeadsToEnds, LeadIfAny, HasRoom, HasRoomIfAny, FlushIsDone, AreHeld, HoldsNoMore, OnlyGrows};
-ghost use Rattle.logger_core.specs.Meant.{Meant, IsAt, SurvivesOf};
+ghost use Rattle.logger_core.specs.Meant.{Meant, IsAt, SurvivesOf, stood_in};
 ghost use Rattle.logger_core.specs.Planning.{with_put, flushed_ends};
 ghost use Rattle.logger_core.specs.Steps.{due_in, with_entry};
 
@@ -33,7 +33,7 @@ pub(crate) fn sync_volume<D: Disk>(disk: &mut D, ends: &Ends) -> Result<Ends, Fa
     Ok(all_counted(ends))
 }
 
-/// Puts an entry behind the index that leads up to the ends of Meta and of the volume, which are sure.
+/// Puts an entry behind the index that leads up to the ends of Meta and of the volume, which are sure, with the greatest stamp.
 fn put_entry<D: Disk>(disk: &mut D, ends: &Ends, entry: Entry) -> Result<Ends, Failed>
     requires small { AreSmall ends.now }
     requires room { HasRoom ends.now entry }
@@ -84,7 +84,7 @@ pub(crate) fn flush_files<D: Disk>(disk: &mut D, ends: &Ends) -> Result<Ends, Fa
     ensures sure { D.tells → IfOk result (λ e. IsVolumeSure e.volume (D.held disk.new)) }
     ensures exact { IfOk result (λ e. e ≡ flushed_ends ends.now) }
     ensures grows { D.tells → OnlyGrows (D.held disk.old) (D.held disk.new) }
-    ensures most { D.tells → (m : Meant) → IsAt m ends.now (D.held disk.old) → HoldsNoMore (with_entry (due_in m.files m.contents ends.now.volume ends.now.greatest) m.files) (D.held disk.new) }
+    ensures most { D.tells → (m : Meant) → IsAt m ends.now (D.held disk.old) → HoldsNoMore (with_entry (due_in m.files m.contents ends.now.volume m.greatest (stood_in m)) m.files) (D.held disk.new) }
     ensures small { IfOk result AreSmall }
     ensures same { IfOk result (λ e. (e.volume ≡ ends.now.volume) × (e.greatest ≡ ends.now.greatest) × (e.meta ≡ ends.now.meta) × (e.length ≡ ends.now.length)) }
     ensures cause { HasCause (D.faults disk.old) (D.faults disk.new) result }

@@ -2,6 +2,8 @@
 ghost use Rattle.logger_core.specs.Recovering.{SurvivorsAreRecovered};
 ghost use Rattle.logger_core.specs.Grouping.{GroupOfOneIsLogged};
 ghost use Rattle.logger_core.specs.Holding.{LoggerHoldsNothing, HoldingNothingIsALogger};
+ghost use Rattle.logger_core.specs.Meant.{GreatestIsGiven};
+ghost use Rattle.logger_core.specs.Steps.{GivenIsGreatest};
 ghost use Rattle.logger_core.specs.Laws.{KeptFilesSurvive, NearerIsKept, SureIsAcknowledged, SureIsKnown, ItemIsAnnounced, RecordsAreAnnounced, LaterRecordsDescribe, EntryIsAnnounced, VolumeIsAnnounced, WholeIsKept, RecoveredIsWhole};
 
 /// Whatever a crash leaves of what a logger keeps is an archive of the first of its items, with all acknowledged ones,
@@ -80,4 +82,14 @@ pub fn logger_holds_nothing()
 /// One that holds no results is a logger of the archive that is meant once all is written.
 pub fn holding_nothing_is_a_logger()
     ensures { HoldingNothingIsALogger }
+{}
+
+/// The greatest stamp that files give is that of an item, an instance domain or an entry of the index, and none is stamped after it.
+pub fn given_is_greatest()
+    ensures { GivenIsGreatest }
+{}
+
+/// While no item of a logger's archive is gone its greatest stamp is as the files give it.
+pub fn greatest_is_given()
+    ensures { GreatestIsGiven }
 {}

@@ -24,9 +24,10 @@ mod writing;
 pub use batch::Batch;
 pub use fault::LogFault;
 pub use laws::{
-    entry_is_announced, group_of_one_is_logged, holding_nothing_is_a_logger, item_is_announced,
-    kept_files_survive, later_records_describe, logger_holds_nothing, nearer_is_kept,
-    records_are_announced, recovered_is_whole, sure_is_acknowledged, sure_is_known,
-    survivors_are_recovered, volume_is_announced, whole_is_kept,
+    entry_is_announced, given_is_greatest, greatest_is_given, group_of_one_is_logged,
+    holding_nothing_is_a_logger, item_is_announced, kept_files_survive, later_records_describe,
+    logger_holds_nothing, nearer_is_kept, records_are_announced, recovered_is_whole,
+    sure_is_acknowledged, sure_is_known, survivors_are_recovered, volume_is_announced,
+    whole_is_kept,
 };
 pub use logger::Logger;

@@ -1,11 +1,11 @@
 //! The switch to the next volume: a flush, the next volume's label, made sure, and an entry that leads to it.
-ghost use Rattle.std.specs.Prelude.{◌≡◌, ◌<◌, ◌+◌, [], true, false, IfOk};
+ghost use Rattle.std.specs.Prelude.{◌≡◌, ◌<◌, ◌+◌, [], length, true, false, IfOk};
 ghost use Rattle.pcp_model.specs.Disk.{Files};
 ghost use Rattle.pcp_outside.specs.Causes.{HasCause};
 ghost use Rattle.pcp_outside.specs.Devices.{LeavesOnly};
 ghost use Rattle.logger_core.specs.Going.{AreSmall, IsVolumeSure, GrownTo, AreHeld, HoldsNoMore, OnlyGrows};
 ghost use Rattle.logger_core.specs.LogSteps.{base_files, crosses, with_new_volume};
-ghost use Rattle.logger_core.specs.Meant.{Meant, IsAt, SurvivesOf};
+ghost use Rattle.logger_core.specs.Meant.{Meant, IsAt, SurvivesOf, items_in, stood_in};
 ghost use Rattle.logger_core.specs.Planning.{opened_ends, switched_ends, ready_ends};
 ghost use Rattle.logger_core.specs.Runs.{IsReady};
 
@@ -26,13 +26,13 @@ pub(crate) fn crosses(ends: &Ends, limit: u64, item: u64) -> bool
     ends.length > LABEL && ends.length + item > limit
 }
 
-/// Gives the next volume its label, and makes it sure.
+/// Gives the next volume its label, and makes it sure. All items of the others are acknowledged.
 fn open_next<D: Disk>(disk: &mut D, label: &Label, ends: &Ends) -> Result<Ends, Failed>
     requires small { AreSmall ends.now }
     requires next { ends.now.volume + 1 < 2147483648 }
-    ensures ok { D.tells → (m : Meant) → IsAt m ends.now (D.held disk.old) → IsVolumeSure ends.now.volume (D.held disk.old) → m.contents.label ≡ label.now → IfOk result (λ e. GrownTo m [] [] [] (with_new_volume label.now (ends.now.volume + 1) m.files) e (D.held disk.new)) }
+    ensures ok { D.tells → (m : Meant) → IsAt m ends.now (D.held disk.old) → IsVolumeSure ends.now.volume (D.held disk.old) → m.acknowledged ≡ length (items_in m) → m.contents.label ≡ label.now → IfOk result (λ e. GrownTo m [] [] [] (with_new_volume label.now (ends.now.volume + 1) m.files) e (D.held disk.new)) }
     ensures sure { D.tells → (m : Meant) → IsAt m ends.now (D.held disk.old) → IfOk result (λ e. IsVolumeSure e.volume (D.held disk.new)) }
-    ensures any_moment { D.tells → (m : Meant) → IsAt m ends.now (D.held disk.old) → IsVolumeSure ends.now.volume (D.held disk.old) → m.contents.label ≡ label.now → LeavesOnly D.moment D.left_since disk.old disk.new (SurvivesOf m) }
+    ensures any_moment { D.tells → (m : Meant) → IsAt m ends.now (D.held disk.old) → IsVolumeSure ends.now.volume (D.held disk.old) → m.acknowledged ≡ length (items_in m) → m.contents.label ≡ label.now → LeavesOnly D.moment D.left_since disk.old disk.new (SurvivesOf m) }
     ensures small { IfOk result AreSmall }
     ensures exact { IfOk result (λ e. e ≡ opened_ends ends.now) }
     ensures grows { D.tells → OnlyGrows (D.held disk.old) (D.held disk.new) }
@@ -55,7 +55,7 @@ fn switch<D: Disk>(disk: &mut D, label: &Label, ends: &Ends) -> Result<Ends, Fai
     ensures small { IfOk result AreSmall }
     ensures exact { IfOk result (λ e. e ≡ switched_ends ends.now) }
     ensures grows { D.tells → OnlyGrows (D.held disk.old) (D.held disk.new) }
-    ensures most { D.tells → (m : Meant) → IsAt m ends.now (D.held disk.old) → m.contents.label ≡ label.now → HoldsNoMore (base_files true m.files m.contents ends.now.volume ends.now.greatest) (D.held disk.new) }
+    ensures most { D.tells → (m : Meant) → IsAt m ends.now (D.held disk.old) → m.contents.label ≡ label.now → HoldsNoMore (base_files true m.files m.contents ends.now.volume m.greatest (stood_in m)) (D.held disk.new) }
     ensures bounded { IfOk result (λ e. (e.length ≡ 132) × (e.meta ≡ ends.now.meta)) }
     ensures cause { HasCause (D.faults disk.old) (D.faults disk.new) result }
 {
@@ -79,7 +79,7 @@ pub(crate) fn make_room<D: Disk>(
     ensures small { IfOk result AreSmall }
     ensures exact { IfOk result (λ e. e ≡ ready_ends crossing ends.now) }
     ensures grows { D.tells → OnlyGrows (D.held disk.old) (D.held disk.new) }
-    ensures most { D.tells → (m : Meant) → IsAt m ends.now (D.held disk.old) → m.contents.label ≡ label.now → HoldsNoMore (base_files crossing m.files m.contents ends.now.volume ends.now.greatest) (D.held disk.new) }
+    ensures most { D.tells → (m : Meant) → IsAt m ends.now (D.held disk.old) → m.contents.label ≡ label.now → HoldsNoMore (base_files crossing m.files m.contents ends.now.volume m.greatest (stood_in m)) (D.held disk.new) }
     ensures bounded { IfOk result (λ e. (crossing ≡ true → e.length ≡ 132) × (crossing ≡ false → e.length ≡ ends.now.length) × (e.meta ≡ ends.now.meta)) }
     ensures cause { HasCause (D.faults disk.old) (D.faults disk.new) result }
 {

@@ -1,5 +1,6 @@
 -- A flush leaves Meta's records and the volumes as they are.
 use Rattle.std.proofs.Common.{◌≡◌, false, inl, inr, ℕ, negsuc, List, [], ◌∷◌, ◌++◌, length, Option, None, Some, refl, sym, ap, ◌∙◌, subst, arith, append-nil, length-append}
+use Rattle.std.specs.Prelude.{option_to_list}
 use Rattle.std.proofs.Math.Path.{fun_ext}
 use Rattle.pcp_base.specs.declared.file.FileId.{FileId}
 use Rattle.pcp_base.specs.declared.file.FileId.TheVariants.{Meta, Index, Volume}
@@ -14,15 +15,15 @@ use Rattle.pcp_model.proofs.OneReading.{one_reading}
 use Rattle.logger_core.specs.declared.ends.Ends.{Ends}
 use Rattle.logger_core.specs.Going.{IsFlushed, IsVolumeSure, all_acknowledged, counting_all}
 use Rattle.logger_core.specs.Holding.{HeldBack, IsHolding, written_back}
-use Rattle.logger_core.specs.Keeps.{Start}
 use Rattle.logger_core.specs.Meant.{Kept, IsLogger, Meant}
-use Rattle.logger_core.specs.Steps.{FlushStep, with_entry}
+use Rattle.logger_core.specs.Steps.{FlushStep, due_in, greatest_in, has_item, with_entry}
 use Rattle.logger_core.proofs.Holds.{holds_nothing}
 use Rattle.logging_session.specs.Events.{Event, LeadFrom, items_by}
 use Rattle.logging_session.specs.Keeping.{AreApart, IsGoing, meant_of}
 use Rattle.logging_session.specs.Written.{Flushes, Stand, Written}
 use Rattle.logging_session.proofs.Events.{items_more, lead_more, sure_flushed, sure_synced}
 use Rattle.logging_session.proofs.Logged.{is_settled}
+use Rattle.logging_session.proofs.Meanings.{means_files}
 use Rattle.logging_session.proofs.OneReason.{last_number}
 
 -- files without their index, and what they are read as
@@ -87,9 +88,10 @@ module _ {name : LabelFields} (left : Files) (limit : ℕ) (events : List Event)
       let new : Written = record { files = f.new.files; contents = f.new.contents; volume = w.volume } in
       let items : items_by (events ++ Event.flushed ∷ []) ≡ items_by events = items_more events Event.flushed ∙ append-nil (items_by events) in
       let flushes : Flushes w new = record {
-        step = subst (λ (n : ℕ). FlushStep w.files w.contents n f.new.files) g.volume f.step;
+        step = subst (λ (n : ℕ). FlushStep w.files w.contents n (greatest_in w.contents) (has_item w.contents) f.new.files) g.volume f.step;
         is = f.is.at.stands.keeps.is;
         records = ap (λ (c : ArchiveContents). c.records) same;
+        entries = f.entries_are ∙ ap (λ (n : ℕ). w.contents.entries ++ option_to_list (due_in w.files w.contents n (greatest_in w.contents) (has_item w.contents))) g.volume;
         items = f.items_same;
         volume = refl;
         last = subst (λ (n : ℕ). EndsWhole f.new.files f.new.contents n) number last;
@@ -104,8 +106,7 @@ module _ {name : LabelFields} (left : Files) (limit : ℕ) (events : List Event)
           acknowledged = f.new.acknowledged;
           pending = [];
           later = f.new.acknowledged;
-          is = subst (λ (s : Start). IsHolding (record { start = s; files = f.new.files; contents = f.new.contents; acknowledged = f.new.acknowledged }) now [] (record { start = s; files = f.new.files; contents = f.new.contents; acknowledged = f.new.acknowledged }) held)
-              f.started (holds_nothing f.new now held f.is none planned);
+          is = subst (λ (n : Meant). IsHolding n now [] n held) (means_files g.first f.new w.volume now.kept.ends f.started f.gone_is f.is.at.ends f.is.at.stands.keeps.is) (holds_nothing f.new now held f.is none planned);
           volume = ap (λ (e : Ends). e.volume) planned ∙ number;
           open_ = open_;
           limit_is = limit_same ∙ g.limit_is;

@@ -1,6 +1,7 @@
 -- The archive of a session that is open: what a logger goes on with, and what a crash leaves of it.
 use Rattle.std.proofs.Common.{◌≡◌, ℕ, ◌+◌, ◌-◌, ◌≤◌, false, List, [], ◌∷◌, ◌++◌, length, take, min, refl, sym, ap, ap₂, ◌∙◌, subst, arith, length-append}
-use Rattle.std.specs.Prelude.{Contains}
+use Rattle.std.specs.Prelude.{Contains, Option}
+use Rattle.pcp_base.specs.Time.{Moment}
 use Rattle.std.proofs.lemmas.List.Elements.{Contains-append_left}
 use Rattle.std.proofs.lemmas.List.{append-nil, append_assoc, map-append, take-append-le, take_min}
 use Rattle.pcp_base.specs.declared.file.FileId.TheVariants.{Meta, Index, Volume}
@@ -23,14 +24,15 @@ use Rattle.logger_core.specs.declared.fault.LogFault.{LogFault}
 use Rattle.logger_core.specs.declared.fault.LogFault.TheVariants.{Closed, Large, NotLater, Changed, Full, NoMemory, DiskFault}
 use Rattle.logger_core.specs.Keeps.{Start}
 use Rattle.logger_core.specs.Laws.{Survives}
-use Rattle.logger_core.specs.LogSteps.{base_files, base_number, crosses, with_run}
+use Rattle.logger_core.specs.LogSteps.{base_files, base_number, crosses, entries_put, with_run}
 use Rattle.logger_core.specs.Grouping.{LogsAll, LogsOne, Told, samples_of}
 use Rattle.logger_core.specs.Held.{counts_of}
 use Rattle.logger_core.specs.Holding.{HeldBack, HoldsMore, IsHolding, written_back}
-use Rattle.logger_core.specs.Logging.{IsLoggable, IsRefused}
+use Rattle.logger_core.specs.Logging.{IsLater, IsLoggable, IsRefused}
 use Rattle.logger_core.specs.Meant.{Meant, items_in}
 use Rattle.logger_core.specs.Recovering.{HoldsFirst}
 use Rattle.logger_core.specs.Reopening.{as_found}
+use Rattle.logger_core.specs.Steps.{greatest_in, has_item}
 use Rattle.logger_core.specs.Runs.{SurvivesWith}
 use Rattle.logger_core.proofs.GroupLogged.{no_runs}
 use Rattle.logger_core.proofs.Grouped.{samples_many}
@@ -43,6 +45,7 @@ use Rattle.logging_session.specs.Written.{EndsAre, Logs, OpensFound, Refuses, Re
 use Rattle.logging_session.proofs.ComeBack.{each_new, fewer, opened_comes, opened_items}
 use Rattle.logging_session.proofs.Events.{items_more, sure_logged}
 use Rattle.logging_session.proofs.Logged.{has_stamp}
+use Rattle.logging_session.proofs.Meanings.{means_files}
 use Rattle.logging_session.proofs.WholeStays.{whole_stays}
 use Rattle.std.proofs.Math.Path.{fun_ext}
 
@@ -210,7 +213,7 @@ module _ {l : LabelFields} (left : Files) (limit : ℕ) (events : List Event) (r
 
   ends_are : EndsAre w all_ends
   ends_are = record {
-    are = record { meta = g.is.ends.meta; index = g.is.ends.index; length_is = g.is.ends.length_is; greatest = g.is.ends.greatest; entry = g.is.ends.entry; logged = g.is.ends.logged; acknowledged_is = g.is.ends.logged };
+    are = record { meta = g.is.ends.meta; index = g.is.ends.index; length_is = g.is.ends.length_is; greatest = g.is.ends.greatest; moment = g.is.ends.moment; above = g.is.ends.above; found = g.is.ends.found; entry = g.is.ends.entry; logged = g.is.ends.logged; acknowledged_is = g.is.ends.logged };
     volume = g.volume;
   }
 
@@ -228,7 +231,7 @@ module _ {l : LabelFields} (left : Files) (limit : ℕ) (events : List Event) (r
       (subst (λ (rs : List MetaRecord). IsLoggable rs b.planned limit r.result r.facts) (sym g.is.records_are) (subst (λ (n : ℕ). IsLoggable b.kept.records b.planned n r.result r.facts) g.limit_is may))
 
   is_new : IsLoggable b.kept.records b.planned b.kept.limit r.result r.facts → Contains (items_in a) (Sample r.result) → ⊥
-  is_new may = has_stamp w.contents b.planned.greatest (Sample r.result) g.is.ends.greatest may.later
+  is_new may = has_stamp w.contents (greatest_in w.contents) (Sample r.result) g.is.ends.above (subst (λ (o : Option Moment). IsLater o r.result.stamp) g.is.ends.greatest may.later)
 
   pub hold_goes : (now : HeldBack) → IsLoggable b.kept.records b.planned b.kept.limit r.result r.facts → HoldsMore (meant_of g.first g.written g.acknowledged) b now (told_of g.pending) r.result r.facts a held → now.kept.limit ≡ b.kept.limit → now.kept.closed ≡ false
       → (new : Written) × Logs limit r w new × IsGoing l left limit (events ++ Event.logged r ∷ []) new now held
@@ -237,29 +240,29 @@ module _ {l : LabelFields} (left : Files) (limit : ℕ) (events : List Event) (r
       let more : items_by (events ++ Event.logged r ∷ []) ≡ items_by events ++ Sample r.result ∷ [] = items_more events (Event.logged r) in
       let step = h.one.step in
       let stands = h.is.stands.keeps in
+      let meant : h.next ≡ meant_of g.first new h.next.acknowledged = means_files g.first h.next now.planned.volume now.planned h.one.started h.one.gone_is h.is.ends stands.is in
       let logs : Logs limit r w new = record {
         ends = all_ends;
         ends_are = ends_are;
         loggable = loggable_here may;
         step = record {
-          greatest = step.greatest;
-          is_greatest = step.is_greatest;
           missing = step.missing;
           needed = step.needed;
           crossing = step.crossing;
           crosses_is = step.crosses_is ∙ ap₂ (λ (l n : ℕ). crosses l (length (w.files (Volume n))) (payload_length r.result + 8)) g.limit_is g.volume;
           is = λ file. step.is file
-              ∙ ap (λ (n : ℕ). with_run (base_number step.crossing n) (framed_records step.missing) (frame (payload r.result)) (base_files step.crossing w.files w.contents n step.greatest) file) g.volume;
+              ∙ ap (λ (n : ℕ). with_run (base_number step.crossing n) (framed_records step.missing) (frame (payload r.result)) (base_files step.crossing w.files w.contents n (greatest_in w.contents) (has_item w.contents)) file) g.volume;
         };
         is = stands.is;
         records = h.one.longer.records;
+        entries = h.one.longer.entries ∙ ap (λ (n : ℕ). w.contents.entries ++ entries_put step.crossing w.files w.contents n (greatest_in w.contents) (has_item w.contents)) g.volume;
         items = h.one.longer.items;
         last = stands.last;
       } in
       let one : LogsOne a w.volume limit r.result r.facts (meant_of g.first new h.next.acknowledged) new.volume =
       subst (λ (n : ℕ). LogsOne a n limit r.result r.facts (meant_of g.first new h.next.acknowledged) new.volume) g.volume
       (subst (λ (n : ℕ). LogsOne a b.planned.volume n r.result r.facts (meant_of g.first new h.next.acknowledged) new.volume) g.limit_is
-      (subst (λ (s : Start). LogsOne a b.planned.volume b.kept.limit r.result r.facts (record { start = s; files = h.next.files; contents = h.next.contents; acknowledged = h.next.acknowledged }) now.planned.volume) h.one.started h.one)) in (
+      (subst (λ (n : Meant). LogsOne a b.planned.volume b.kept.limit r.result r.facts n now.planned.volume) meant h.one)) in (
         new,
         logs,
         record {
@@ -271,8 +274,7 @@ module _ {l : LabelFields} (left : Files) (limit : ℕ) (events : List Event) (r
           pending = g.pending ++ r ∷ [];
           later = h.next.acknowledged;
           is = subst (λ (ts : List Told). IsHolding (meant_of g.first g.written g.acknowledged) now ts (meant_of g.first new h.next.acknowledged) held) (sym (told_more g.pending r))
-              (subst (λ (s : Start). IsHolding (meant_of g.first g.written g.acknowledged) now (told_of g.pending ++ (r.result, r.facts) ∷ []) (record { start = s; files = h.next.files; contents = h.next.contents; acknowledged = h.next.acknowledged }) held)
-              h.one.started h.is);
+              (subst (λ (n : Meant). IsHolding (meant_of g.first g.written g.acknowledged) now (told_of g.pending ++ (r.result, r.facts) ∷ []) n held) meant h.is);
           volume = refl;
           open_ = open_;
           limit_is = limit_same ∙ g.limit_is;

@@ -7,6 +7,7 @@ pub mod Going
 pub mod HeldEvents
 pub mod Logged
 pub mod Logging
+pub mod Meanings
 pub mod OneReason
 pub mod OneChain
 pub mod Openings

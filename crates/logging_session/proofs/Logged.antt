@@ -11,14 +11,14 @@ use Rattle.pcp_model.specs.Sound.{IsItemBy}
 use Rattle.logger_core.specs.Going.{IsVolumeSure}
 use Rattle.logger_core.specs.Logging.{IsLater}
 use Rattle.logger_core.specs.Meant.{Meant, Stands}
-use Rattle.logger_core.specs.Steps.{IsGreatest}
+use Rattle.logger_core.specs.Steps.{IsAbove}
 use Rattle.logger_core.proofs.Survival.{this_or_other}
 use Rattle.logging_session.proofs.ComeBack.{at_of}
 
 -- what may be logged is later than all that is there
-pub has_stamp : (c : ArchiveContents) (o : Option Moment) (x : Item) → IsGreatest c o → IsLater o (stamp_of x) → Contains (items_of c.volumes) x → ⊥
+pub has_stamp : (c : ArchiveContents) (o : Option Moment) (x : Item) → IsAbove c o → IsLater o (stamp_of x) → Contains (items_of c.volumes) x → ⊥
 has_stamp c None x none later has = none (stamp_of x) (inl (x, has, refl))
-has_stamp c (Some t) x is later has = let by : microseconds (stamp_of x) ≤ microseconds t = at_of (IsItemBy t) (items_of c.volumes) x is.1 has in omega (arith, by, later)
+has_stamp c (Some t) x is later has = let by : microseconds (stamp_of x) ≤ microseconds t = at_of (IsItemBy t) (items_of c.volumes) x is.0 has in omega (arith, by, later)
 
 pub not_closed : {A : Type 0} (b : Bool) → b ≡ true → b ≡ false → A
 not_closed b closed open_ = absurd (let no : true ≡ false = sym closed ∙ open_ in cc)

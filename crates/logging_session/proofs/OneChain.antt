@@ -1,6 +1,6 @@
 -- Results that are logged one behind another lead to one archive.
 use Rattle.std.proofs.Common.{zero, suc, ◌≡◌, ℕ, ◌+◌, Bool, List, [], ◌∷◌, ◌++◌, length, take, Option, refl, sym, ap, ap₂, ◌∙◌, subst}
-use Rattle.std.specs.Prelude.{if◌then◌else◌}
+use Rattle.std.specs.Prelude.{if◌then◌else◌, nat_lt, ◌||◌}
 use Rattle.std.proofs.Math.Path.{fun_ext}
 use Rattle.pcp_base.specs.Time.{Moment}
 use Rattle.pcp_base.specs.declared.file.FileId.{FileId}
@@ -19,13 +19,12 @@ use Rattle.archive_meta.specs.declared.facts.Facts.{Facts}
 use Rattle.archive_meta.specs.Missing.{AreMissing, framed_records}
 use Rattle.logger_core.specs.Grouping.{LogsAll, LogsOne}
 use Rattle.logger_core.specs.LogSteps.{base_number, crosses, switch_entries, with_next, with_run}
-use Rattle.logger_core.specs.Meant.{Meant, items_in}
-use Rattle.logger_core.specs.Steps.{due, last_entry, with_entry}
-use Rattle.logger_core.proofs.EntryPut.{greatest_same}
+use Rattle.logger_core.specs.Meant.{Meant, items_in, stood_in}
+use Rattle.logger_core.specs.Steps.{due, greatest_in, has_item, last_entry, with_entry}
 use Rattle.logging_session.specs.Events.{Lead, logged_all}
 use Rattle.logging_session.specs.Keeping.{LogsEach, meant_of, told_of}
 use Rattle.logging_session.specs.Written.{Report, Stand, Written}
-use Rattle.logging_session.proofs.OneReason.{archive_timely, one_greatest, one_missing}
+use Rattle.logging_session.proofs.OneReason.{one_missing}
 
 -- a logger means what this archive holds
 pub record MeansSame (m : Meant) (number : ℕ) (w : Written) : Type 0 where
@@ -35,32 +34,34 @@ pub record MeansSame (m : Meant) (number : ℕ) (w : Written) : Type 0 where
   pub records : m.contents.records ≡ w.contents.records
   pub entries : m.contents.entries ≡ w.contents.entries
   pub items : items_in m ≡ items_of w.contents.volumes
+  pub gone : m.gone ≡ 0
+  pub greatest : m.greatest ≡ greatest_in w.contents
 
 -- what a result is logged by
 record Step : Type 0 where
   pub files : Files
   pub label : LabelFields
   pub entries : List Entry
-  pub items : List Item
+  pub stood : Bool
   pub number : ℕ
   pub crossing : Bool
   pub greatest : Option Moment
   pub missing : List MetaRecord
 
-abbrev step_of : Meant → ℕ → Bool → Option Moment → List MetaRecord → Step
-step_of m number crossing greatest missing = record {
+abbrev step_of : Meant → ℕ → Bool → List MetaRecord → Step
+step_of m number crossing missing = record {
   files = m.files;
   label = m.contents.label;
   entries = m.contents.entries;
-  items = items_in m;
+  stood = stood_in m;
   number = number;
   crossing = crossing;
-  greatest = greatest;
+  greatest = m.greatest;
   missing = missing;
 }
 
 abbrev due_of : Step → Option Entry
-due_of s = due s.greatest (length s.items) (last_entry s.entries) (length (s.files Index)) s.number (length (s.files Meta)) (length (s.files (Volume s.number)))
+due_of s = due s.greatest s.stood (last_entry s.entries) (length (s.files Index)) s.number (length (s.files Meta)) (length (s.files (Volume s.number)))
 
 abbrev files_after : PmResult → Step → Files
 files_after answer s =
@@ -72,8 +73,8 @@ entries_after s = s.entries ++ (if s.crossing then switch_entries (due_of s) s.g
 -- ---- one result
 
 module _ (limit : ℕ) (answer : PmResult) (facts : Facts) (first w v : Written) (sure now : ℕ) (m n : Meant) (number next : ℕ) (same : MeansSame m number w) (is : IsArchive w.files w.contents) (x : LogsOne m number limit answer facts n next) (y : LogsOne (meant_of first w sure) w.volume limit answer facts (meant_of first v now) v.volume) where
-  greatest : x.step.greatest ≡ y.step.greatest
-  greatest = one_greatest w.contents (archive_timely w.files w.contents is) x.step.greatest y.step.greatest (greatest_same m.contents w.contents (sym same.items) (sym same.records) x.step.greatest x.step.is_greatest) y.step.is_greatest
+  stood : stood_in m ≡ has_item w.contents
+  stood = ap₂ (λ (n : ℕ) (xs : List Item). nat_lt 0 n || nat_lt 0 (length xs)) same.gone same.items
 
   missing : x.step.missing ≡ y.step.missing
   missing = one_missing w.contents.records facts answer x.step.missing y.step.missing (subst (λ (rs : List MetaRecord). AreMissing rs facts answer x.step.missing) same.records x.step.needed) y.step.needed
@@ -81,19 +82,19 @@ module _ (limit : ℕ) (answer : PmResult) (facts : Facts) (first w v : Written)
   crossing : x.step.crossing ≡ y.step.crossing
   crossing = x.step.crosses_is ∙ ap₂ (λ (f : Files) (k : ℕ). crosses limit (length (f (Volume k))) (payload_length answer + 8)) same.files same.volume ∙ sym y.step.crosses_is
 
-  abbrev by : Files → LabelFields → List Entry → List Item → ℕ → Bool → Option Moment → List MetaRecord → Step
-  by f l es xs k b t rs = record { files = f; label = l; entries = es; items = xs; number = k; crossing = b; greatest = t; missing = rs }
+  abbrev by : Files → LabelFields → List Entry → Bool → ℕ → Bool → Option Moment → List MetaRecord → Step
+  by f l es stood k b t rs = record { files = f; label = l; entries = es; stood = stood; number = k; crossing = b; greatest = t; missing = rs }
 
-  one_step : step_of m number x.step.crossing x.step.greatest x.step.missing ≡ step_of (meant_of first w sure) w.volume y.step.crossing y.step.greatest y.step.missing
+  one_step : step_of m number x.step.crossing x.step.missing ≡ step_of (meant_of first w sure) w.volume y.step.crossing y.step.missing
   one_step =
-      ap (λ (f : Files). by f m.contents.label m.contents.entries (items_in m) number x.step.crossing x.step.greatest x.step.missing) same.files
-      ∙ ap (λ (l : LabelFields). by w.files l m.contents.entries (items_in m) number x.step.crossing x.step.greatest x.step.missing) same.label
-      ∙ ap (λ (es : List Entry). by w.files w.contents.label es (items_in m) number x.step.crossing x.step.greatest x.step.missing) same.entries
-      ∙ ap (λ (xs : List Item). by w.files w.contents.label w.contents.entries xs number x.step.crossing x.step.greatest x.step.missing) same.items
-      ∙ ap (λ (k : ℕ). by w.files w.contents.label w.contents.entries (items_of w.contents.volumes) k x.step.crossing x.step.greatest x.step.missing) same.volume
-      ∙ ap (λ (b : Bool). by w.files w.contents.label w.contents.entries (items_of w.contents.volumes) w.volume b x.step.greatest x.step.missing) crossing
-      ∙ ap (λ (t : Option Moment). by w.files w.contents.label w.contents.entries (items_of w.contents.volumes) w.volume y.step.crossing t x.step.missing) greatest
-      ∙ ap (λ (rs : List MetaRecord). by w.files w.contents.label w.contents.entries (items_of w.contents.volumes) w.volume y.step.crossing y.step.greatest rs) missing
+      ap (λ (f : Files). by f m.contents.label m.contents.entries (stood_in m) number x.step.crossing m.greatest x.step.missing) same.files
+      ∙ ap (λ (l : LabelFields). by w.files l m.contents.entries (stood_in m) number x.step.crossing m.greatest x.step.missing) same.label
+      ∙ ap (λ (es : List Entry). by w.files w.contents.label es (stood_in m) number x.step.crossing m.greatest x.step.missing) same.entries
+      ∙ ap (λ (b : Bool). by w.files w.contents.label w.contents.entries b number x.step.crossing m.greatest x.step.missing) stood
+      ∙ ap (λ (k : ℕ). by w.files w.contents.label w.contents.entries (has_item w.contents) k x.step.crossing m.greatest x.step.missing) same.volume
+      ∙ ap (λ (b : Bool). by w.files w.contents.label w.contents.entries (has_item w.contents) w.volume b m.greatest x.step.missing) crossing
+      ∙ ap (λ (t : Option Moment). by w.files w.contents.label w.contents.entries (has_item w.contents) w.volume y.step.crossing t x.step.missing) same.greatest
+      ∙ ap (λ (rs : List MetaRecord). by w.files w.contents.label w.contents.entries (has_item w.contents) w.volume y.step.crossing (greatest_in w.contents) rs) missing
 
   pub means_next : MeansSame n next v
   means_next = record {
@@ -103,6 +104,8 @@ module _ (limit : ℕ) (answer : PmResult) (facts : Facts) (first w v : Written)
     records = x.longer.records ∙ ap₂ (λ (rs ms : List MetaRecord). rs ++ ms) same.records missing ∙ sym y.longer.records;
     entries = x.longer.entries ∙ ap entries_after one_step ∙ sym y.longer.entries;
     items = x.longer.items ∙ ap (λ (xs : List Item). xs ++ Sample answer ∷ []) same.items ∙ sym y.longer.items;
+    gone = x.gone_is ∙ same.gone;
+    greatest = x.greatest_is ∙ sym y.greatest_is;
   }
 
 -- ---- the first ones of some results

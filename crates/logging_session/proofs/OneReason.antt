@@ -2,27 +2,23 @@
 use Rattle.std.proofs.Common.{◌≡◌, ◌≢◌, inl, inr, ℕ, ℤ, ◌+◌, ◌<◌, ◌≤◌, List, [], ◌∷◌, ◌++◌, length, Option, None, Some, refl, sym, ap, ap₂, ◌∙◌, subst, arith, length-append}
 use Rattle.std.specs.Prelude.{min}
 use Rattle.std.specs.List.{AllByRecursion}
-use Rattle.pcp_base.specs.Time.{Moment, IsMoment, microseconds}
+use Rattle.pcp_base.specs.Time.{Moment, microseconds}
 use Rattle.pcp_base.specs.declared.desc.Desc.{Desc}
 use Rattle.pcp_base.specs.declared.file.FileId.{FileId}
 use Rattle.pcp_base.specs.declared.file.FileId.TheVariants.{Meta, Index, Volume}
 use Rattle.pcp_base.specs.declared.result.Item.{Item}
-use Rattle.pcp_base.specs.declared.result.Item.TheVariants.{Sample, Mark}
 use Rattle.pcp_base.specs.declared.result.PmResult.{PmResult}
 use Rattle.pcp_base.specs.declared.result.ValueSet.{ValueSet}
 use Rattle.pcp_model.specs.declared.records.Entry.{Entry}
 use Rattle.pcp_model.specs.declared.records.MetaRecord.{MetaRecord}
 use Rattle.pcp_model.specs.declared.records.MetaRecord.TheVariants.{Description, Domain, Other}
-use Rattle.pcp_model.specs.Archive.{ArchiveContents, ArchiveReading, AreRead, AreVolumes, IsArchive, IsLastVolume, Reads, items_of}
+use Rattle.pcp_model.specs.Archive.{ArchiveContents, ArchiveReading, IsArchive, Reads}
 use Rattle.pcp_model.specs.Described.{EachStamp, HoldsAt}
 use Rattle.pcp_model.specs.Disk.{Files, IsEmpty}
 use Rattle.pcp_model.specs.LabelFields.{LabelFields}
 use Rattle.pcp_model.specs.Laws.{EndsWhole}
-use Rattle.pcp_model.specs.Payload.{IsItem, payload_length, stamp_of}
-use Rattle.pcp_model.specs.Records.{IsRecord}
+use Rattle.pcp_model.specs.Payload.{payload_length}
 use Rattle.pcp_model.specs.Recovered.{Recovers}
-use Rattle.pcp_model.specs.Sound.{IsItemBy, IsRecordBy, NoDomainAfter, NoItemAfter}
-use Rattle.pcp_model.proofs.Lists.{each-append}
 use Rattle.pcp_model.proofs.OneReading.{one_reading}
 use Rattle.archive_meta.specs.declared.facts.Changed.{Changed as Change}
 use Rattle.archive_meta.specs.declared.facts.Facts.{Facts}
@@ -35,8 +31,9 @@ use Rattle.logger_core.specs.Created.{no_items}
 use Rattle.logger_core.specs.Logging.{AreFramed, HasNoPlace, HasPlace, IsFull, IsLater, IsLoggable, IsRefused}
 use Rattle.logger_core.specs.Meant.{AreEnds}
 use Rattle.logger_core.specs.Reopening.{as_found}
-use Rattle.logger_core.specs.Steps.{IsGreatest, IsStampIn}
-use Rattle.logging_session.proofs.ComeBack.{at_of, same_left}
+use Rattle.logger_core.specs.Steps.{IsStampIn}
+pub use Rattle.logger_core.proofs.Greatest.{one_moment}
+use Rattle.logging_session.proofs.ComeBack.{same_left}
 
 -- ---- one list of pairs holds of a domain at a moment
 
@@ -207,67 +204,12 @@ module _ (records : List MetaRecord) (e : Ends) (limit : ℕ) (answer : PmResult
       not_full e limit (length (framed_records may.missing)) (payload_length answer + 8) f n may.place
       (subst (λ (rs : List MetaRecord). IsFull e limit (length (framed_records rs)) (payload_length answer + 8) f n) (one_missing records facts answer m may.missing needed may.needed) full)
 
--- ---- the stamps of an archive are moments
-
-abbrev IsTimely : Item → Type 0
-IsTimely x = IsMoment (stamp_of x)
-
-abbrev IsTimelyRecord : MetaRecord → Type 0
-IsTimelyRecord (Description d names) = Unit {0}
-IsTimelyRecord (Domain t indom pairs) = IsMoment t
-IsTimelyRecord Other = Unit {0}
-
-item_timely : (bytes : List ℕ) (x : Item) → IsItem bytes x → IsTimely x
-item_timely bytes (Sample r) is = is.1.range.moment
-item_timely bytes (Mark t) is = is.0
-
-record_timely : (bytes : List ℕ) (r : MetaRecord) → IsRecord bytes r → IsTimelyRecord r
-record_timely bytes (Description d names) is = tt
-record_timely bytes (Domain t indom pairs) is = is.moment
-record_timely bytes Other is = tt
-
-each_read : {X : Type 0} (R : List ℕ → X → Type 0) (P : X → Type 0) → ((bytes : List ℕ) (x : X) → R bytes x → P x) → (payloads : List (List ℕ)) (xs : List X) → AreRead R payloads xs → AllByRecursion P xs
-each_read R P f [] [] are = tt
-each_read R P f [] (x ∷ xs) are = absurd (are tt)
-each_read R P f (p ∷ ps) [] are = tt
-each_read R P f (p ∷ ps) (x ∷ xs) are = (f p x are.1, each_read R P f ps xs are.2)
-
-last_timely : (bytes : List ℕ) (l : LabelFields) (n : ℕ) (items : List Item) → IsLastVolume bytes l n items → AllByRecursion IsTimely items
-last_timely bytes l n items (inl (some, none, begins)) = subst (λ (xs : List Item). AllByRecursion IsTimely xs) (sym none) tt
-last_timely bytes l n items (inr (torn, is_torn, h)) = each_read IsItem IsTimely item_timely h.payloads items h.read
-
-all_timely : (files : Files) (l : LabelFields) (vs : List (ℕ × List Item)) → AreVolumes files l vs → AllByRecursion IsTimely (items_of vs)
-all_timely files l [] are = tt
-all_timely files l (v ∷ []) are = each-append IsTimely v.1 [] (last_timely (files (Volume v.0)) l v.0 v.1 are) tt
-all_timely files l (v ∷ w ∷ vs) are = each-append IsTimely v.1 (items_of (w ∷ vs)) (each_read IsItem IsTimely item_timely are.0.payloads v.1 are.0.read) (all_timely files l (w ∷ vs) are.2)
-
-pub archive_timely : (files : Files) (c : ArchiveContents) → IsArchive files c → (t : Moment) → IsStampIn c t → IsMoment t
-archive_timely files c is t (inl (x, has, same)) = subst IsMoment same (at_of IsTimely (items_of c.volumes) x (all_timely files c.label c.volumes is.volumes) has)
-archive_timely files c is t (inr (indom, pairs, has)) =
-    at_of IsTimelyRecord c.records (Domain t indom pairs) (each_read IsRecord IsTimelyRecord record_timely is.meta.holds.payloads c.records is.meta.holds.read) has
+-- ---- a new archive has no stamp
 
 pub none_stamped : (l : LabelFields) (t : Moment) → IsStampIn (no_items l) t → ⊥
 none_stamped l t (inl (x, has, same)) = omega (arith, has.1)
-none_stamped l t (inr (indom, pairs, has)) = omega (arith, has.1)
-
-pub one_moment : (s t : Moment) → IsMoment s → IsMoment t → microseconds s ≡ microseconds t → s ≡ t
-one_moment s t in_range also same =
-    let sec : s.sec ≡ t.sec = omega (arith, in_range.usec, also.usec, same) in
-    let usec : s.usec ≡ t.usec = omega (arith, in_range.usec, also.usec, same) in
-    ap₂ (λ (a b : ℕ). record { sec = a; usec = b }) sec usec
-
-not_above : (c : ArchiveContents) (s t : Moment) → IsStampIn c s → NoItemAfter t (items_of c.volumes) → NoDomainAfter t c.records → microseconds s ≤ microseconds t
-not_above c s t (inl (x, has, same)) items domains = subst (λ (m : Moment). microseconds m ≤ microseconds t) same (at_of (IsItemBy t) (items_of c.volumes) x items has)
-not_above c s t (inr (indom, pairs, has)) items domains = at_of (IsRecordBy t) c.records (Domain s indom pairs) domains has
-
-pub one_greatest : (c : ArchiveContents) → ((t : Moment) → IsStampIn c t → IsMoment t) → (a b : Option Moment) → IsGreatest c a → IsGreatest c b → a ≡ b
-one_greatest c timely None None x y = refl
-one_greatest c timely None (Some t) x y = absurd (x t y.0)
-one_greatest c timely (Some s) None x y = absurd (y s x.0)
-one_greatest c timely (Some s) (Some t) x y =
-    let up : microseconds s ≤ microseconds t = not_above c s t x.0 y.1 y.2 in
-    let down : microseconds t ≤ microseconds s = not_above c t s y.0 x.1 x.2 in
-    ap (λ (m : Moment). Some m) (one_moment s t (timely s x.0) (timely t y.0) (omega (arith, up, down)))
+none_stamped l t (inr (inl (indom, pairs, has))) = omega (arith, has.1)
+none_stamped l t (inr (inr (e, has, same))) = omega (arith, has.1)
 
 -- ---- one archive is opened, and what is kept of it in numbers is one
 
@@ -291,7 +233,7 @@ no_archive files c empty is =
 abbrev ends : ℕ → ℕ → ℕ → ℕ → Option Moment → Option Entry → ℕ → ℕ → Ends
 ends meta index volume size greatest entry logged acknowledged = record { meta = meta; index = index; volume = volume; length = size; greatest = greatest; entry = entry; logged = logged; acknowledged = acknowledged }
 
-module _ (files : Files) (c : ArchiveContents) (timely : (t : Moment) → IsStampIn c t → IsMoment t) (a b : Ends) (x : AreEnds (as_found files c) a) (y : AreEnds (as_found files c) b) (w : EndsWhole files c a.volume) (v : EndsWhole files c b.volume) where
+module _ (files : Files) (c : ArchiveContents) (a b : Ends) (x : AreEnds (as_found files c) a) (y : AreEnds (as_found files c) b) (w : EndsWhole files c a.volume) (v : EndsWhole files c b.volume) where
   one_volume : a.volume ≡ b.volume
   one_volume = last_number w.before v.before a.volume b.volume w.items v.items (sym w.are ∙ v.are)
 
@@ -301,7 +243,7 @@ module _ (files : Files) (c : ArchiveContents) (timely : (t : Moment) → IsStam
       ∙ ap (λ (n : ℕ). ends b.meta n a.volume a.length a.greatest a.entry a.logged a.acknowledged) (x.index ∙ sym y.index)
       ∙ ap (λ (n : ℕ). ends b.meta b.index n a.length a.greatest a.entry a.logged a.acknowledged) one_volume
       ∙ ap (λ (n : ℕ). ends b.meta b.index b.volume n a.greatest a.entry a.logged a.acknowledged) (x.length_is ∙ ap (λ (n : ℕ). length (files (Volume n))) one_volume ∙ sym y.length_is)
-      ∙ ap (λ (o : Option Moment). ends b.meta b.index b.volume b.length o a.entry a.logged a.acknowledged) (one_greatest c timely a.greatest b.greatest x.greatest y.greatest)
+      ∙ ap (λ (o : Option Moment). ends b.meta b.index b.volume b.length o a.entry a.logged a.acknowledged) (x.greatest ∙ sym y.greatest)
       ∙ ap (λ (o : Option Entry). ends b.meta b.index b.volume b.length b.greatest o a.logged a.acknowledged) (x.entry ∙ sym y.entry)
       ∙ ap (λ (n : ℕ). ends b.meta b.index b.volume b.length b.greatest b.entry n a.acknowledged) (x.logged ∙ sym y.logged)
       ∙ ap (λ (n : ℕ). ends b.meta b.index b.volume b.length b.greatest b.entry b.logged n) (x.acknowledged_is ∙ sym y.acknowledged_is)

@@ -138,7 +138,7 @@ module _ {D : Type 0} (d : DiskGhosts D) (l : LabelFields) (left : Files) (limit
   number = let at = g.is.at.stands.keeps.last in last_number at.before g.last.before b.kept.ends.volume g.written.volume at.items g.last.items (sym at.are ∙ g.last.are)
 
   there : (v : Written) × Lead l limit (Stand.opened g.written) (logged_all (take k g.pending)) (Stand.opened v) × (p.n.files ≡ v.files)
-  there = leads_first l limit g.first w g.later k g.pending g.written g.acknowledged m p.n b.kept.ends.volume p.next record { files = refl; volume = number; label = refl; records = refl; entries = refl; items = refl }
+  there = leads_first l limit g.first w g.later k g.pending g.written g.acknowledged m p.n b.kept.ends.volume p.next record { files = refl; volume = number; label = refl; records = refl; entries = refl; items = refl; gone = refl; greatest = refl }
       g.is.at.stands.keeps.is g.each (subst (λ (n : ℕ). LogsAll m b.kept.ends.volume n (take k told) p.n p.next) g.limit_is p.all)
 
   led : LeadsTo l limit left done (contents_of (d.held p.at))

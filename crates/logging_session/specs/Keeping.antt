@@ -16,6 +16,7 @@ use Rattle.logger_core.specs.Held.{counts_of}
 use Rattle.logger_core.specs.Holding.{HasRoomBeside, HeldBack, IsHolding}
 use Rattle.logger_core.specs.Meant.{Meant}
 use Rattle.logger_core.specs.Reopening.{IsLeft}
+use Rattle.logger_core.specs.Steps.{greatest_in}
 use Rattle.logging_session.specs.declared.place.Place.{Place}
 use Rattle.logging_session.specs.declared.place.Place.TheVariants.{Found, Open, Lost, Failed}
 use Rattle.logging_session.specs.Events.{Event, LeadFrom, items_by, acknowledged_by, logged_all}
@@ -60,13 +61,15 @@ abbrev pub HasRoomIn : Place → PmResult → Type 0
 HasRoomIn (Open b) answer = HasRoomBeside b.runs answer
 HasRoomIn place answer = Unit {0}
 
--- what a logger means of an archive that was opened first
+-- what a logger means of an archive that was opened first: no volume was retired
 abbrev pub meant_of : Written → Written → ℕ → Meant
 meant_of first w acknowledged = record {
   start = record { files = first.files; reading = ArchiveReading.archive first.contents };
   files = w.files;
   contents = w.contents;
   acknowledged = acknowledged;
+  gone = 0;
+  greatest = greatest_in w.contents;
 }
 
 -- every byte is sure

@@ -1,6 +1,6 @@
 -- The archive of a session (pmlogger(1), LOGARCHIVE(5)) as whole files: what recovery left, until it is opened, and from then on what
 -- was logged into it.
-use Rattle.std.specs.Prelude.{◌≡◌, ◌⊎◌, ℕ, [], ◌∷◌, ◌++◌}
+use Rattle.std.specs.Prelude.{◌≡◌, ◌⊎◌, ℕ, [], ◌∷◌, ◌++◌, option_to_list}
 use Rattle.pcp_base.specs.Time.{Moment}
 use Rattle.pcp_base.specs.declared.result.Item.TheVariants.{Sample}
 use Rattle.pcp_base.specs.declared.result.PmResult.{PmResult}
@@ -14,10 +14,10 @@ use Rattle.logger_core.specs.declared.ends.Ends.{Ends}
 use Rattle.logger_core.specs.declared.fault.LogFault.{LogFault}
 use Rattle.logger_core.specs.Created.{no_items}
 use Rattle.logger_core.specs.Logging.{IsLoggable, IsRefused}
-use Rattle.logger_core.specs.LogSteps.{LogStep}
+use Rattle.logger_core.specs.LogSteps.{LogStep, entries_put}
 use Rattle.logger_core.specs.Meant.{AreEnds}
 use Rattle.logger_core.specs.Reopening.{as_found}
-use Rattle.logger_core.specs.Steps.{FlushStep}
+use Rattle.logger_core.specs.Steps.{FlushStep, due_in, greatest_in, has_item}
 
 -- files, what they are read as, and the volume that is written
 pub record Written : Type 0 where
@@ -55,14 +55,16 @@ pub record EndsAre (w : Written) (ends : Ends) : Type 0 where
   pub are : AreEnds (as_found w.files w.contents) ends
   pub volume : ends.volume ≡ w.volume
 
--- a result is logged into an archive
+-- A result is logged into an archive. A session retires no volume: the greatest stamp, and whether an item stands, are as the files give
+-- them.
 pub record Logs (limit : ℕ) (r : Report) (old new : Written) : Type 0 where
   pub ends : Ends
   pub ends_are : EndsAre old ends
   pub loggable : IsLoggable old.contents.records ends limit r.result r.facts
-  pub step : LogStep old.files old.contents old.volume limit r.result r.facts new.files
+  pub step : LogStep old.files old.contents old.volume (greatest_in old.contents) (has_item old.contents) limit r.result r.facts new.files
   pub is : IsArchive new.files new.contents
   pub records : new.contents.records ≡ old.contents.records ++ step.missing
+  pub entries : new.contents.entries ≡ old.contents.entries ++ entries_put step.crossing old.files old.contents old.volume (greatest_in old.contents) (has_item old.contents)
   pub items : items_of new.contents.volumes ≡ items_of old.contents.volumes ++ Sample r.result ∷ []
   pub last : EndsWhole new.files new.contents new.volume
 
@@ -80,9 +82,10 @@ pub record Takes (limit : ℕ) (r : Report) (w : Written) : Type 0 where
 
 -- a flush
 pub record Flushes (old new : Written) : Type 0 where
-  pub step : FlushStep old.files old.contents old.volume new.files
+  pub step : FlushStep old.files old.contents old.volume (greatest_in old.contents) (has_item old.contents) new.files
   pub is : IsArchive new.files new.contents
   pub records : new.contents.records ≡ old.contents.records
+  pub entries : new.contents.entries ≡ old.contents.entries ++ option_to_list (due_in old.files old.contents old.volume (greatest_in old.contents) (has_item old.contents))
   pub items : items_of new.contents.volumes ≡ items_of old.contents.volumes
   pub volume : new.volume ≡ old.volume
   pub last : EndsWhole new.files new.contents new.volume

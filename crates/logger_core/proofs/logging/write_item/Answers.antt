@@ -37,5 +37,5 @@ returns-clause-ok g c = λ tells m limit facts after at same w.
     let mid = d.held c.make_room.new.disk in
     let start = c.in_ok-start.start in
     let ready = c.in_ok-start.ensures.ok tells m at same in
-    item_ok m e start old mid (d.held c.write_run.new.disk) limit answer facts after made at w ready c.write_run.result c.as_slice.result.now c.as_slice-2.result.now c.as_slice.ensures c.as_slice-2.ensures
+    item_ok m e start old mid (d.held c.write_run.new.disk) limit answer facts after made at w ready c.write_run.result c.as_slice.result.now c.as_slice-2.result.now c.as_slice.ensures c.as_slice-2.ensures c.write_run.ensures.exact
     (c.write_run.ensures.ok tells ready.new ready.at w.is.metadata.missing (Sample answer ∷ []) (ready_run m e start old mid limit answer facts after made at w ready c.as_slice.result.now c.as_slice-2.result.now c.as_slice.ensures c.as_slice-2.ensures) (ready_last m e start old mid limit answer facts after made at w ready) refl)

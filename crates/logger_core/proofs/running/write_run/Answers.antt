@@ -57,7 +57,7 @@ returns-clause-ok g c = λ tells m at rs xs run last many.
     let come = items_come m e old mid rs xs c.args.records.now c.args.items.now at run first in
     let second = c.in_ok-add_items.ensures.ok tells first.new first.stands run.payloads xs run.items_are come in
     subst (λ (x : Ends). GrownTo m rs [] xs (with_run e.volume c.args.records.now c.args.items.now m.files) x new) (sym c.ran_ends.ensures) (
-      run_grown m e old mid rs xs c.args.records.now c.args.items.now at run first new second,
+      run_grown m e old mid rs xs c.args.records.now c.args.items.now at run first new second c.args.stamp,
       run_ends m e old mid rs xs c.args.records.now c.args.items.now at run first new second c.args.stamp c.args.count (shown_count (e.logged + c.args.count)) last many refl,
     )
 

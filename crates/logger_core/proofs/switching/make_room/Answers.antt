@@ -1,5 +1,5 @@
 -- Where there is room nothing is done.
-use Rattle.logger_core.specs.Meant.{SurvivesOf}
+use Rattle.logger_core.specs.Meant.{SurvivesOf, stood_in}
 use Rattle.logger_core.proofs.Calls.{no_call}
 use Rattle.logger_core.proofs.Growing.{grows_not}
 use Rattle.logger_core.proofs.Rests.{image_survives}
@@ -20,9 +20,9 @@ pub returns-then-not-crossing-clause-most : goal.returns-then-not-crossing-claus
 returns-then-not-crossing-clause-most g c = λ tells m at same.
     let e = c.args.ends.now in
     let held = g.D.Disk.held c.args.disk.now in
-    subst (λ (b : Bool). HoldsNoMore (base_files b m.files m.contents e.volume e.greatest) held) (sym c.if-not-crossing.true) (most_same m.files held at.stands.written)
+    subst (λ (b : Bool). HoldsNoMore (base_files b m.files m.contents e.volume m.greatest (stood_in m)) held) (sym c.if-not-crossing.true) (most_same m.files held at.stands.written)
 
 pub returns-clause-most : goal.returns-clause-most
 returns-clause-most g c = λ tells m at same.
     let e = c.args.ends.now in
-    subst (λ (b : Bool). HoldsNoMore (base_files b m.files m.contents e.volume e.greatest) (g.D.Disk.held c.switch.new.disk)) (sym c.if-not-crossing.false) (c.switch.ensures.most tells m at same)
+    subst (λ (b : Bool). HoldsNoMore (base_files b m.files m.contents e.volume m.greatest (stood_in m)) (g.D.Disk.held c.switch.new.disk)) (sym c.if-not-crossing.false) (c.switch.ensures.most tells m at same)

@@ -16,25 +16,25 @@ use Rattle.logger_core.proofs.switching.open_next.Goals as goal
 
 pub returns-in_err-append_synced-clause-any_moment :
     goal.returns-in_err-append_synced-clause-any_moment
-returns-in_err-append_synced-clause-any_moment g c = λ tells m at sure same.
+returns-in_err-append_synced-clause-any_moment g c = λ tells m at sure all same.
     let d = g.D.Disk in
     let e = c.args.ends.now in
     run_as d g.met.D.Disk.only_now c.args.disk.now c.append_synced.new.disk (SurvivesOf m) (CrashImage (holdings_after_append (Volume (e.volume + 1)) c.label_bytes-bytes.result (d.held c.args.disk.now))) (c.append_synced.ensures.any_moment tells)
-    (label_survives m e (d.held c.args.disk.now) c.args.label.now c.label_bytes-bytes.result at sure same (c.label_bytes-bytes.ensures.bytes ∙ label_number_is c.args.label.now (c.args.ends.now.volume + 1) c.requires.next) (range_number_is c.args.label.now (c.args.ends.now.volume + 1) c.requires.next c.label_bytes-bytes.ensures.range))
+    (label_survives m e (d.held c.args.disk.now) c.args.label.now c.label_bytes-bytes.result at sure all same (c.label_bytes-bytes.ensures.bytes ∙ label_number_is c.args.label.now (c.args.ends.now.volume + 1) c.requires.next) (range_number_is c.args.label.now (c.args.ends.now.volume + 1) c.requires.next c.label_bytes-bytes.ensures.range))
 
 pub returns-clause-any_moment : goal.returns-clause-any_moment
-returns-clause-any_moment g c = λ tells m at sure same.
+returns-clause-any_moment g c = λ tells m at sure all same.
     let d = g.D.Disk in
     let e = c.args.ends.now in
     run_as d g.met.D.Disk.only_now c.args.disk.now c.append_synced.new.disk (SurvivesOf m) (CrashImage (holdings_after_append (Volume (e.volume + 1)) c.label_bytes-bytes.result (d.held c.args.disk.now))) (c.append_synced.ensures.any_moment tells)
-    (label_survives m e (d.held c.args.disk.now) c.args.label.now c.label_bytes-bytes.result at sure same (c.label_bytes-bytes.ensures.bytes ∙ label_number_is c.args.label.now (c.args.ends.now.volume + 1) c.requires.next) (range_number_is c.args.label.now (c.args.ends.now.volume + 1) c.requires.next c.label_bytes-bytes.ensures.range))
+    (label_survives m e (d.held c.args.disk.now) c.args.label.now c.label_bytes-bytes.result at sure all same (c.label_bytes-bytes.ensures.bytes ∙ label_number_is c.args.label.now (c.args.ends.now.volume + 1) c.requires.next) (range_number_is c.args.label.now (c.args.ends.now.volume + 1) c.requires.next c.label_bytes-bytes.ensures.range))
 
 pub returns-clause-ok : goal.returns-clause-ok
-returns-clause-ok g c = λ tells m at sure same.
+returns-clause-ok g c = λ tells m at sure all same.
     let d = g.D.Disk in
     let e = c.args.ends.now in
     subst (λ (x : Ends). GrownTo m [] [] [] (with_new_volume c.args.label.now (e.volume + 1) m.files) x (d.held c.append_synced.new.disk)) (sym c.opened_ends.ensures)
-    (label_grown m e (d.held c.args.disk.now) c.args.label.now c.label_bytes-bytes.result at sure same (c.label_bytes-bytes.ensures.bytes ∙ label_number_is c.args.label.now (c.args.ends.now.volume + 1) c.requires.next) (range_number_is c.args.label.now (c.args.ends.now.volume + 1) c.requires.next c.label_bytes-bytes.ensures.range) (d.held c.append_synced.new.disk) (c.in_ok-append_synced.ensures.held tells))
+    (label_grown m e (d.held c.args.disk.now) c.args.label.now c.label_bytes-bytes.result at sure all same (c.label_bytes-bytes.ensures.bytes ∙ label_number_is c.args.label.now (c.args.ends.now.volume + 1) c.requires.next) (range_number_is c.args.label.now (c.args.ends.now.volume + 1) c.requires.next c.label_bytes-bytes.ensures.range) (d.held c.append_synced.new.disk) (c.in_ok-append_synced.ensures.held tells))
 
 pub returns-in_err-append_synced-clause-grows :
     goal.returns-in_err-append_synced-clause-grows

@@ -1,9 +1,9 @@
 -- A flush, the label, the entry.
 use Rattle.std.proofs.Common.{◌∙◌, ◌+◌, length, true, Option, subst}
-use Rattle.logger_core.specs.Meant.{IsAt, SurvivesOf}
+use Rattle.logger_core.specs.Meant.{IsAt, SurvivesOf, stood_in}
 use Rattle.logger_core.proofs.Calls.{run_then}
 use Rattle.logger_core.proofs.Growing.{grows_then}
-use Rattle.logger_core.proofs.Turned.{flushed_survives, grown_survives, switch_found_room, switch_found_leads, switch_ok, opened_files, switched_base}
+use Rattle.logger_core.proofs.Turned.{all_flushed, flushed_survives, grown_survives, switch_found_room, switch_found_leads, switch_ok, opened_files, switched_base}
 use Rattle.pcp_base.specs.declared.file.FileId.TheVariants.{Meta, Index}
 use Rattle.pcp_model.specs.declared.records.Entry.{Entry}
 use Rattle.logger_core.specs.Going.{HoldsNoMore}
@@ -25,7 +25,7 @@ returns-in_err-opened-clause-any_moment g c = λ tells m at same.
     let flushed = c.in_ok-flushed.flushed in
     let f = c.in_ok-flushed.ensures.ok tells m at in
     run_then d g.met.D.Disk.only_now c.args.disk.now c.flush_files.new.disk c.open_next.new.disk (SurvivesOf m) (SurvivesOf m) (SurvivesOf f.new)
-    (c.flush_files.ensures.any_moment tells m at) (c.open_next.ensures.any_moment tells f.new f.at (c.in_ok-flushed.ensures.sure tells) (f.label_same ∙ same))
+    (c.flush_files.ensures.any_moment tells m at) (c.open_next.ensures.any_moment tells f.new f.at (c.in_ok-flushed.ensures.sure tells) (all_flushed m e flushed mid f) (f.label_same ∙ same))
     (λ image good. good) (flushed_survives m e flushed old mid at f)
 
 pub returns-clause-any_moment : goal.returns-clause-any_moment
@@ -39,12 +39,12 @@ returns-clause-any_moment g c = λ tells m at same.
     let open_ = c.in_ok-opened.opened in
     let f = c.in_ok-flushed.ensures.ok tells m at in
     let sure = c.in_ok-flushed.ensures.sure tells in
-    let o = c.in_ok-opened.ensures.ok tells f.new f.at sure (f.label_same ∙ same) in
+    let o = c.in_ok-opened.ensures.ok tells f.new f.at sure (all_flushed m e flushed mid f) (f.label_same ∙ same) in
     let o_at : IsAt o.0.new open_ mid2 = record { stands = o.0.stands; ends = o.1 } in
     let lead = switch_found_leads o.0.new open_ mid2 c.switch_entry-entry.result c.switch_entry-entry.ensures o_at (c.in_ok-opened.ensures.sure tells f.new f.at) c.in_ok-opened.ensures.same.4 in
     run_then d g.met.D.Disk.only_now c.args.disk.now c.open_next.new.disk c.add_entry.new.disk (SurvivesOf m) (SurvivesOf m) (SurvivesOf o.0.new)
     (run_then d g.met.D.Disk.only_now c.args.disk.now c.flush_files.new.disk c.open_next.new.disk (SurvivesOf m) (SurvivesOf m) (SurvivesOf f.new)
-    (c.flush_files.ensures.any_moment tells m at) (c.open_next.ensures.any_moment tells f.new f.at sure (f.label_same ∙ same)) (λ image good. good) (flushed_survives m e flushed old mid at f))
+    (c.flush_files.ensures.any_moment tells m at) (c.open_next.ensures.any_moment tells f.new f.at sure (all_flushed m e flushed mid f) (f.label_same ∙ same)) (λ image good. good) (flushed_survives m e flushed old mid at f))
     (c.add_entry.ensures.any_moment tells o.0.new o_at lead) (λ image good. good)
     (λ image w. flushed_survives m e flushed old mid at f image (grown_survives f.new _ open_.volume mid2 o.0 image w))
 
@@ -59,11 +59,11 @@ returns-clause-ok g c = λ tells m at same.
     let open_ = c.in_ok-opened.opened in
     let f = c.in_ok-flushed.ensures.ok tells m at in
     let sure = c.in_ok-flushed.ensures.sure tells in
-    let o = c.in_ok-opened.ensures.ok tells f.new f.at sure (f.label_same ∙ same) in
+    let o = c.in_ok-opened.ensures.ok tells f.new f.at sure (all_flushed m e flushed mid f) (f.label_same ∙ same) in
     let o_at : IsAt o.0.new open_ mid2 = record { stands = o.0.stands; ends = o.1 } in
     let lead = switch_found_leads o.0.new open_ mid2 c.switch_entry-entry.result c.switch_entry-entry.ensures o_at (c.in_ok-opened.ensures.sure tells f.new f.at) c.in_ok-opened.ensures.same.4 in
     switch_ok m c.args.label.now e flushed open_ old mid mid2 (d.held c.add_entry.new.disk) c.switch_entry-entry.result c.add_entry.result at same f o
-    c.in_ok-flushed.ensures.same.0 c.in_ok-opened.ensures.same.0 c.in_ok-opened.ensures.same.1 c.in_ok-flushed.ensures.same.1 c.switch_entry-entry.ensures (c.add_entry.ensures.ok tells o.0.new o_at lead) c.add_entry.ensures.same
+    c.in_ok-flushed.ensures.same.0 c.in_ok-opened.ensures.same.0 c.in_ok-opened.ensures.same.1 c.switch_entry-entry.ensures (c.add_entry.ensures.ok tells o.0.new o_at lead) c.add_entry.ensures.same
 
 pub returns-in_err-opened-clause-grows : goal.returns-in_err-opened-clause-grows
 returns-in_err-opened-clause-grows g c = λ tells.
@@ -80,8 +80,8 @@ pub returns-in_err-flushed-clause-most : goal.returns-in_err-flushed-clause-most
 returns-in_err-flushed-clause-most g c = λ tells m at same.
     let d = g.D.Disk in
     let e = c.args.ends.now in
-    let files = with_entry (due_in m.files m.contents e.volume e.greatest) m.files in
-    most_longer files (base_files true m.files m.contents e.volume e.greatest) (d.held c.flush_files.new.disk) (next_longer m.contents.label (e.volume + 1) e.greatest files) (c.flush_files.ensures.most tells m at)
+    let files = with_entry (due_in m.files m.contents e.volume m.greatest (stood_in m)) m.files in
+    most_longer files (base_files true m.files m.contents e.volume m.greatest (stood_in m)) (d.held c.flush_files.new.disk) (next_longer m.contents.label (e.volume + 1) m.greatest files) (c.flush_files.ensures.most tells m at)
 
 pub returns-in_err-opened-clause-most : goal.returns-in_err-opened-clause-most
 returns-in_err-opened-clause-most g c = λ tells m at same.
@@ -92,9 +92,9 @@ returns-in_err-opened-clause-most g c = λ tells m at same.
     let mid2 = d.held c.open_next.new.disk in
     let flushed = c.in_ok-flushed.flushed in
     let f = c.in_ok-flushed.ensures.ok tells m at in
-    let files = with_entry (due_in m.files m.contents e.volume e.greatest) m.files in
+    let files = with_entry (due_in m.files m.contents e.volume m.greatest (stood_in m)) m.files in
     let new = with_new_volume m.contents.label (e.volume + 1) files in
-    most_longer new (base_files true m.files m.contents e.volume e.greatest) mid2 (entry_longer (switch_entry e.greatest (length (files Index)) (e.volume + 1) (length (files Meta))) new)
+    most_longer new (base_files true m.files m.contents e.volume m.greatest (stood_in m)) mid2 (entry_longer (switch_entry m.greatest (length (files Index)) (e.volume + 1) (length (files Meta))) new)
     (most_as (with_new_volume l (flushed.volume + 1) f.new.files) new mid2 (opened_files m l e flushed mid same f c.in_ok-flushed.ensures.same.0) (c.open_next.ensures.most tells f.new.files f.at.stands.written))
 
 pub returns-clause-most : goal.returns-clause-most
@@ -108,7 +108,7 @@ returns-clause-most g c = λ tells m at same.
     let flushed = c.in_ok-flushed.flushed in
     let open_ = c.in_ok-opened.opened in
     let f = c.in_ok-flushed.ensures.ok tells m at in
-    let o = c.in_ok-opened.ensures.ok tells f.new f.at (c.in_ok-flushed.ensures.sure tells) (f.label_same ∙ same) in
-    most_as (with_entry (switch_at open_) o.0.new.files) (base_files true m.files m.contents e.volume e.greatest) new
-    (switched_base m l e flushed mid same f c.in_ok-flushed.ensures.same.0 open_ mid2 o c.in_ok-opened.ensures.same.0 c.in_ok-opened.ensures.same.1 c.in_ok-flushed.ensures.same.1)
+    let o = c.in_ok-opened.ensures.ok tells f.new f.at (c.in_ok-flushed.ensures.sure tells) (all_flushed m e flushed mid f) (f.label_same ∙ same) in
+    most_as (with_entry (switch_at open_) o.0.new.files) (base_files true m.files m.contents e.volume m.greatest (stood_in m)) new
+    (switched_base m l e flushed mid same f c.in_ok-flushed.ensures.same.0 open_ mid2 o c.in_ok-opened.ensures.same.0 c.in_ok-opened.ensures.same.1)
     (subst (λ (x : Option Entry). HoldsNoMore (with_entry x o.0.new.files) new) c.switch_entry-entry.ensures (c.add_entry.ensures.most tells o.0.new.files o.0.stands.written))

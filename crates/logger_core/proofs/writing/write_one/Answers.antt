@@ -1,6 +1,6 @@
 -- A volume with room for the run, and then the run.
 use Rattle.logger_core.specs.Grouping.{samples_of}
-use Rattle.logger_core.specs.Meant.{SurvivesOf}
+use Rattle.logger_core.specs.Meant.{SurvivesOf, stood_in}
 use Rattle.logger_core.specs.Runs.{SurvivesWith}
 use Rattle.logger_core.proofs.Calls.{run_as, run_then}
 use Rattle.logger_core.proofs.Growing.{grows_then}
@@ -59,7 +59,7 @@ returns-in_err-start-clause-most g c = λ tells m limit group now after at same 
     let mid = d.held c.make_room.new.disk in
     let files = ready_files m.contents.label run.crossing e m.files in
     most_longer files (run_files m.contents.label e run m.files) mid (run_longer (ready_ends run.crossing e).volume run.records run.items files)
-    (most_as (base_files run.crossing m.files m.contents e.volume e.greatest) files mid (based m e at.ends run.crossing) (c.make_room.ensures.most tells m at same))
+    (most_as (base_files run.crossing m.files m.contents e.volume m.greatest (stood_in m)) files mid (based m e at.ends run.crossing) (c.make_room.ensures.most tells m at same))
 
 pub returns-clause-most : goal.returns-clause-most
 returns-clause-most g c = λ tells m limit group now after at same r enough.
