@@ -22,7 +22,6 @@ use Rattle.pcp_base.specs.declared.result.PmResult.{PmResult}
 use Rattle.logger_core.specs.declared.ends.Ends.{Ends}
 use Rattle.logger_core.specs.declared.fault.LogFault.{LogFault}
 use Rattle.logger_core.specs.declared.fault.LogFault.TheVariants.{Closed, Large, NotLater, Changed, Full, NoMemory, DiskFault}
-use Rattle.logger_core.specs.Keeps.{Start}
 use Rattle.logger_core.specs.Laws.{Survives}
 use Rattle.logger_core.specs.LogSteps.{base_files, base_number, crosses, entries_put, with_run}
 use Rattle.logger_core.specs.Grouping.{LogsAll, LogsOne, Told, samples_of}

@@ -1,12 +1,11 @@
 -- What a logger means that retired no volume is given by the files.
-use Rattle.std.proofs.Common.{◌≡◌, ℕ, Option, ap, ◌∙◌, subst, sym}
+use Rattle.std.proofs.Common.{◌≡◌, ℕ, Option, ap, ◌∙◌}
 use Rattle.pcp_base.specs.Time.{Moment}
 use Rattle.pcp_model.specs.Archive.{ArchiveContents, ArchiveReading, IsArchive}
 use Rattle.pcp_model.specs.Disk.{Files}
 use Rattle.logger_core.specs.declared.ends.Ends.{Ends}
 use Rattle.logger_core.specs.Keeps.{Start}
 use Rattle.logger_core.specs.Meant.{AreEnds, Meant}
-use Rattle.logger_core.specs.Steps.{greatest_in}
 use Rattle.logger_core.proofs.Greatest.{greatest_found}
 use Rattle.logging_session.specs.Keeping.{meant_of}
 use Rattle.logging_session.specs.Written.{Written}

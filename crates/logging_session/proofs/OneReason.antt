@@ -1,7 +1,6 @@
 -- An archive that doesn't take a result has one reason for it: what is asked of it has one answer.
 use Rattle.std.proofs.Common.{◌≡◌, ◌≢◌, inl, inr, ℕ, ℤ, ◌+◌, ◌<◌, ◌≤◌, List, [], ◌∷◌, ◌++◌, length, Option, None, Some, refl, sym, ap, ap₂, ◌∙◌, subst, arith, length-append}
 use Rattle.std.specs.Prelude.{min}
-use Rattle.std.specs.List.{AllByRecursion}
 use Rattle.pcp_base.specs.Time.{Moment, microseconds}
 use Rattle.pcp_base.specs.declared.desc.Desc.{Desc}
 use Rattle.pcp_base.specs.declared.file.FileId.{FileId}
