@@ -25,6 +25,7 @@ pub fn tell_fault(alloc: Global, fault: LogFault) -> Result<String, NoMemory> {
     let mut out = String::new(alloc);
     match fault {
         LogFault::Closed => out.push_str("Closed\n")?,
+        LogFault::Live { volume } => write!(&mut out, "Live {volume}\n")?,
         LogFault::Large { bytes } => write!(&mut out, "Large {bytes}\n")?,
         LogFault::NotLater { last } => {
             let (sec, usec) = (last.sec(), last.usec());

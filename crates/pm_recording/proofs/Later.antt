@@ -1,11 +1,12 @@
 -- Over moments that rise, and stand behind every stamp there, no result comes too early for the archive.
-use Rattle.std.proofs.Common.{◌≡◌, inl, inr, ℕ, ℤ, suc, ◌<◌, ◌≤◌, List, [], ◌∷◌, ◌++◌, map, Contains, Option, Some, None, refl, sym, ap, ◌∙◌, subst, arith, append_assoc}
+use Rattle.std.proofs.Common.{◌≡◌, inl, inr, ℕ, ℤ, suc, ◌+◌, ◌<◌, ◌≤◌, Bool, true, false, if◌then◌else◌, List, [], ◌∷◌, ◌++◌, length, map, Contains, Option, Some, None, option_to_list, refl, sym, ap, ◌∙◌, subst, arith, append_assoc}
 use Rattle.std.proofs.lemmas.List.{append-nil}
 use Rattle.std.specs.List.{AllByRecursion}
 use Rattle.pcp_base.specs.Time.{Moment, microseconds}
 use Rattle.pcp_base.specs.declared.desc.Desc.{Desc}
 use Rattle.pcp_base.specs.declared.file.FileId.{FileId}
 use Rattle.pcp_base.specs.declared.file.FileId.TheVariants as files
+use Rattle.pcp_model.specs.declared.records.Entry.{Entry}
 use Rattle.pcp_base.specs.declared.result.Item.TheVariants.{Sample}
 use Rattle.pcp_base.specs.declared.result.PmResult.{PmResult}
 use Rattle.pcp_model.specs.declared.records.MetaRecord.{MetaRecord}
@@ -26,7 +27,8 @@ use Rattle.log_schedule.specs.declared.config.Group.{Group}
 use Rattle.logger_core.specs.declared.fault.LogFault.{LogFault}
 use Rattle.logger_core.specs.declared.fault.LogFault.TheVariants as faults
 use Rattle.logger_core.specs.Logging.{IsLater}
-use Rattle.logger_core.specs.Steps.{IsGreatest, IsStampIn}
+use Rattle.logger_core.specs.LogSteps.{entries_put, switch_entry}
+use Rattle.logger_core.specs.Steps.{IsEntryBy, IsGreatest, IsStampIn, NoEntryAfter, due_in, fits_index, fitting, greatest_in, has_item, is_behind, last_entry, up_to, where_behind, with_entry}
 use Rattle.logger_core.proofs.Whole.{each_contained}
 use Rattle.logging_session.specs.Events.{Event, Lead, LeadFrom, opening}
 use Rattle.logging_session.specs.Written.{Logs, Opens, Refuses, Report, Stand, Written, starting}
@@ -52,7 +54,7 @@ record_by last t later Other by = tt
 
 no_record : (c : ArchiveContents) (t : Moment) → IsGreatest c None → (r : MetaRecord) → Contains c.records r → IsRecordBy t r
 no_record c t none (Description d names) there = tt
-no_record c t none (Domain s i pairs) there = absurd (none s (inr (i, pairs, there)))
+no_record c t none (Domain s i pairs) there = absurd (none s (inr (inl (i, pairs, there))))
 no_record c t none Other there = tt
 
 items_by : (c : ArchiveContents) (g : Option Moment) (t : Moment) → IsGreatest c g → IsLater g t → NoItemAfter t (items_of c.volumes)
@@ -62,6 +64,10 @@ items_by c (Some last) t is later = each-map (IsItemBy last) (IsItemBy t) (λ x 
 domains_by : (c : ArchiveContents) (g : Option Moment) (t : Moment) → IsGreatest c g → IsLater g t → NoDomainAfter t c.records
 domains_by c None t none later = each-map (λ r. Contains c.records r) (IsRecordBy t) (no_record c t none) c.records (each_contained c.records)
 domains_by c (Some last) t is later = each-map (IsRecordBy last) (IsRecordBy t) (record_by last t later) c.records is.2
+
+entries_by : (c : ArchiveContents) (g : Option Moment) (t : Moment) → IsGreatest c g → IsLater g t → NoEntryAfter t c.entries
+entries_by c None t none later = each-map (λ e. Contains c.entries e) (IsEntryBy t) (λ e there. absurd (none e.stamp (inr (inr (e, there, refl))))) c.entries (each_contained c.entries)
+entries_by c (Some last) t is later = each-map (IsEntryBy last) (IsEntryBy t) (λ e by. omega (arith, by, later)) c.entries is.3
 
 described : (t : Moment) (facts : List (Desc × List ℕ)) → NoDomainAfter t (map described_by facts)
 described t [] = tt
@@ -78,25 +84,73 @@ missing_by records facts answer missing needed =
     (described answer.stamp (values_of_keys (fact_of facts.metrics) (undescribed_metrics records answer.sets)))
     (listed answer.stamp records (domains_of facts answer.sets) needed.domains needed.lacking))
 
-not_above : (c : ArchiveContents) (s t : Moment) → IsStampIn c s → NoItemAfter t (items_of c.volumes) → NoDomainAfter t c.records → microseconds s ≤ microseconds t
-not_above c s t (inl (x, has, same)) items domains = subst (λ (m : Moment). microseconds m ≤ microseconds t) same (at_of (IsItemBy t) (items_of c.volumes) x items has)
-not_above c s t (inr (indom, pairs, has)) items domains = at_of (IsRecordBy t) c.records (Domain s indom pairs) domains has
+-- ---- the entries that are put have the greatest stamp
+
+kept_by : (b : Bool) (e : Entry) (t : Moment) → IsEntryBy t e → NoEntryAfter t (option_to_list (if b then Some e else None))
+kept_by true e t by = (by, tt)
+kept_by false e t by = tt
+
+where_by : (last o : Option Entry) (t : Moment) → NoEntryAfter t (option_to_list o) → NoEntryAfter t (option_to_list (where_behind last o))
+where_by last None t by = tt
+where_by last (Some e) t by = kept_by (is_behind last e) e t by.0
+
+fitting_by : (size : ℕ) (e : Entry) (t : Moment) → IsEntryBy t e → NoEntryAfter t (option_to_list (fitting size e))
+fitting_by size e t by = kept_by (fits_index size e) e t by
+
+due_by : (all : Files) (c : ArchiveContents) (number : ℕ) (g : Option Moment) (stood : Bool) (t : Moment) → IsLater g t → NoEntryAfter t (option_to_list (due_in all c number g stood))
+due_by all c number None stood t later = tt
+due_by all c number (Some s) false t later = tt
+due_by all c number (Some s) true t later =
+    let e : Entry = up_to s number (length (all files.Meta)) (length (all (files.Volume number))) in
+    where_by (last_entry c.entries) (fitting (length (all files.Index)) e) t (fitting_by (length (all files.Index)) e t (omega (arith, later)))
+
+switch_by : (g : Option Moment) (size next meta : ℕ) (t : Moment) → IsLater g t → NoEntryAfter t (option_to_list (switch_entry g size next meta))
+switch_by None size next meta t later = tt
+switch_by (Some s) size next meta t later = fitting_by size (up_to s next meta 132) t (omega (arith, later))
+
+put_by : (b : Bool) (all : Files) (c : ArchiveContents) (number : ℕ) (g : Option Moment) (stood : Bool) (t : Moment) → IsLater g t → NoEntryAfter t (entries_put b all c number g stood)
+put_by false all c number g stood t later = tt
+put_by true all c number g stood t later =
+    let flushed : Files = with_entry (due_in all c number g stood) all in
+    each-append (IsEntryBy t) (option_to_list (due_in all c number g stood)) (option_to_list (switch_entry g (length (flushed files.Index)) (number + 1) (length (flushed files.Meta))))
+    (due_by all c number g stood t later) (switch_by g (length (flushed files.Index)) (number + 1) (length (flushed files.Meta)) t later)
+
+not_above : (c : ArchiveContents) (s t : Moment) → IsStampIn c s → NoItemAfter t (items_of c.volumes) → NoDomainAfter t c.records → NoEntryAfter t c.entries → microseconds s ≤ microseconds t
+not_above c s t (inl (x, has, same)) items domains entries = subst (λ (m : Moment). microseconds m ≤ microseconds t) same (at_of (IsItemBy t) (items_of c.volumes) x items has)
+not_above c s t (inr (inl (indom, pairs, has))) items domains entries = at_of (IsRecordBy t) c.records (Domain s indom pairs) domains has
+not_above c s t (inr (inr (e, has, same))) items domains entries = subst (λ (m : Moment). microseconds m ≤ microseconds t) same (at_of (IsEntryBy t) c.entries e entries has)
 
 module _ (limit : ℕ) (r : Report) (old new : Written) (logs : Logs limit r old new) where
   abbrev now : Moment
   now = r.result.stamp
 
+  -- the greatest stamp that the files give, which the result is after
+  abbrev before : Option Moment
+  before = greatest_in old.contents
+
+  is_greatest : IsGreatest old.contents before
+  is_greatest = logs.ends_are.are.found refl
+
+  is_later : IsLater before now
+  is_later = subst (λ (g : Option Moment). IsLater g now) logs.ends_are.are.greatest logs.loggable.later
+
   items_now : NoItemAfter now (items_of new.contents.volumes)
   items_now = subst (NoItemAfter now) (sym logs.items) (each-append (IsItemBy now) (items_of old.contents.volumes) (Sample r.result ∷ [])
-      (items_by old.contents logs.ends.greatest now logs.ends_are.are.greatest logs.loggable.later) (omega arith, tt))
+      (items_by old.contents before now is_greatest is_later) (omega arith, tt))
 
   domains_now : NoDomainAfter now new.contents.records
   domains_now = subst (NoDomainAfter now) (sym logs.records) (each-append (IsRecordBy now) old.contents.records logs.step.missing
-      (domains_by old.contents logs.ends.greatest now logs.ends_are.are.greatest logs.loggable.later)
+      (domains_by old.contents before now is_greatest is_later)
       (missing_by old.contents.records r.facts r.result logs.step.missing logs.step.needed))
 
+  entries_now : NoEntryAfter now new.contents.entries
+  entries_now = subst (NoEntryAfter now) (sym logs.entries) (each-append (IsEntryBy now) old.contents.entries
+      (entries_put logs.step.crossing old.files old.contents old.volume before (has_item old.contents))
+      (entries_by old.contents before now is_greatest is_later)
+      (put_by logs.step.crossing old.files old.contents old.volume before (has_item old.contents) now is_later))
+
   logged_last : (s : Moment) → IsStampIn new.contents s → microseconds s ≤ microseconds now
-  logged_last s is = not_above new.contents s now is items_now domains_now
+  logged_last s is = not_above new.contents s now is items_now domains_now entries_now
 
 -- ---- the events of results
 
@@ -194,7 +248,8 @@ full_apart file bytes last is = cc
 
 too_early : (limit : ℕ) (r : Report) (w : Written) (fault : LogFault) (last : Moment) → Refuses limit r w fault → ending_of fault ≡ Some (ends.NotLater last) → (t : Moment) × IsStampIn w.contents t × (microseconds r.result.stamp ≤ microseconds t)
 too_early limit r w (faults.NotLater t) last refuses is =
-    let greatest : IsGreatest w.contents (Some t) = subst (λ (g : Option Moment). IsGreatest w.contents g) refuses.refused.2 refuses.ends_are.are.greatest in (t, greatest.0, refuses.refused.3)
+    let same : greatest_in w.contents ≡ Some t = sym refuses.ends_are.are.greatest ∙ refuses.refused.2 in
+    let greatest : IsGreatest w.contents (Some t) = subst (λ (g : Option Moment). IsGreatest w.contents g) same (refuses.ends_are.are.found refl) in (t, greatest.0, refuses.refused.3)
 too_early limit r w (faults.Full file bytes) last refuses is = absurd (full_apart file bytes last is)
 too_early limit r w fault last refuses is = absurd (cc)
 

@@ -17,11 +17,11 @@ use Rattle.logger_core.specs.declared.fault.LogFault.{LogFault}
 use Rattle.logger_core.specs.declared.fault.LogFault.TheVariants as faults
 use Rattle.logger_core.specs.Logging.{IsRefused}
 use Rattle.logger_core.specs.LogSteps.{LogStep, base_files, base_number, with_run}
-use Rattle.logger_core.specs.Steps.{FlushStep, IsStampIn, due_in, with_entry}
+use Rattle.logger_core.specs.Steps.{FlushStep, IsStampIn, greatest_in, has_item}
 use Rattle.logging_session.specs.Course.{LeadsTo}
 use Rattle.logging_session.specs.Events.{Event, Lead, LeadFrom, Steps, opening}
 use Rattle.logging_session.specs.Written.{EndsAre, Flushes, Logs, Opens, OpensFound, Refuses, Report, Stand, Written, files_of, starting}
-use Rattle.logging_session.proofs.OneReason.{archive_timely, last_number, no_archive, none_stamped, not_refused, one_contents, one_ends, one_greatest, one_missing, one_refusal}
+use Rattle.logging_session.proofs.OneReason.{archive_timely, last_number, no_archive, none_stamped, not_refused, one_contents, one_ends, one_missing, one_refusal}
 use Rattle.script_runs.specs.declared.ending.Ending.{Ending}
 use Rattle.script_runs.specs.Archives.{IsTurnedAway, ending_of, report_of, run_label}
 
@@ -76,15 +76,18 @@ one_count w good a b x y =
 -- ---- a result is logged in one way, or refused for one reason
 
 module _ (limit : ℕ) (r : Report) (old : Written) (good : IsGood old) where
-  abbrev run_of : Option Moment → List MetaRecord → Bool → Files
-  run_of greatest missing crossing = with_run (base_number crossing old.volume) (framed_records missing) (frame (payload r.result)) (base_files crossing old.files old.contents old.volume greatest)
+  abbrev run_of : List MetaRecord → Bool → Files
+  run_of missing crossing =
+      with_run (base_number crossing old.volume) (framed_records missing) (frame (payload r.result)) (base_files crossing old.files old.contents old.volume (greatest_in old.contents) (has_item old.contents))
 
-  one_step : (a b : Files) → LogStep old.files old.contents old.volume limit r.result r.facts a → LogStep old.files old.contents old.volume limit r.result r.facts b → a ≡ b
+  abbrev Step : Files → Type 0
+  Step new = LogStep old.files old.contents old.volume (greatest_in old.contents) (has_item old.contents) limit r.result r.facts new
+
+  one_step : (a b : Files) → Step a → Step b → a ≡ b
   one_step a b x y =
-      let same : run_of x.greatest x.missing x.crossing ≡ run_of y.greatest y.missing y.crossing =
-      ap (λ (o : Option Moment). run_of o x.missing x.crossing) (one_greatest old.contents good.timely x.greatest y.greatest x.is_greatest y.is_greatest)
-      ∙ ap (λ (rs : List MetaRecord). run_of y.greatest rs x.crossing) (one_missing old.contents.records r.facts r.result x.missing y.missing x.needed y.needed)
-      ∙ ap (λ (b : Bool). run_of y.greatest y.missing b) (x.crosses_is ∙ sym y.crosses_is) in
+      let same : run_of x.missing x.crossing ≡ run_of y.missing y.crossing =
+      ap (λ (rs : List MetaRecord). run_of rs x.crossing) (one_missing old.contents.records r.facts r.result x.missing y.missing x.needed y.needed)
+      ∙ ap (λ (b : Bool). run_of y.missing b) (x.crosses_is ∙ sym y.crosses_is) in
       fun_ext (λ file. x.is file ∙ ap (λ (fs : Files). fs file) same ∙ sym (y.is file))
 
   one_log : (a b : Written) → Logs limit r old a → Logs limit r old b → a ≡ b
@@ -108,15 +111,15 @@ logs_good limit r old new x = record { timely = archive_timely new.files new.con
 
 -- ---- a flush makes one thing of it
 
-one_flushed : (old : Written) → IsGood old → (a b : Files) → FlushStep old.files old.contents old.volume a → FlushStep old.files old.contents old.volume b → a ≡ b
-one_flushed old good a b x y =
-    let same : with_entry (due_in old.files old.contents old.volume x.greatest) old.files ≡ with_entry (due_in old.files old.contents old.volume y.greatest) old.files =
-    ap (λ (o : Option Moment). with_entry (due_in old.files old.contents old.volume o) old.files) (one_greatest old.contents good.timely x.greatest y.greatest x.is_greatest y.is_greatest) in
-    fun_ext (λ file. x.is file ∙ ap (λ (fs : Files). fs file) same ∙ sym (y.is file))
+abbrev Flushed : Written → Files → Type 0
+Flushed old new = FlushStep old.files old.contents old.volume (greatest_in old.contents) (has_item old.contents) new
 
-one_flush : (old a b : Written) → IsGood old → Flushes old a → Flushes old b → a ≡ b
-one_flush old a b good x y =
-    let files = one_flushed old good a.files b.files x.step y.step in
+one_flushed : (old : Written) (a b : Files) → Flushed old a → Flushed old b → a ≡ b
+one_flushed old a b x y = fun_ext (λ file. x.is file ∙ sym (y.is file))
+
+one_flush : (old a b : Written) → Flushes old a → Flushes old b → a ≡ b
+one_flush old a b x y =
+    let files = one_flushed old a.files b.files x.step y.step in
     same_written a b files (one_contents a.files a.contents b.contents x.is (subst (λ (fs : Files). IsArchive fs b.contents) (sym files) y.is)) (x.volume ∙ sym y.volume)
 
 flush_good : (old new : Written) → Flushes old new → IsGood new
@@ -132,7 +135,7 @@ module _ (l : LabelFields) (limit : ℕ) where
   one_step_on (Stand.found left) Event.synced a b good x y = absurd x
   one_step_on (Stand.opened old) (Event.opened stamp) a b good x y = absurd x
   one_step_on (Stand.opened old) (Event.logged r) a b good (w, x, is) (v, y, also) = is ∙ ap (λ (o : Written). Stand.opened o) (one_log limit r old good w v x y) ∙ sym also
-  one_step_on (Stand.opened old) Event.flushed a b good (w, x, is) (v, y, also) = is ∙ ap (λ (o : Written). Stand.opened o) (one_flush old w v good x y) ∙ sym also
+  one_step_on (Stand.opened old) Event.flushed a b good (w, x, is) (v, y, also) = is ∙ ap (λ (o : Written). Stand.opened o) (one_flush old w v x y) ∙ sym also
   one_step_on (Stand.opened old) Event.synced a b good x y = x ∙ sym y
 
   step_good : (s : Stand) (e : Event) (a : Stand) → Good s → Steps l limit s e a → Good a

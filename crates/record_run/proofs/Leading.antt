@@ -38,6 +38,7 @@ failed_unheld (places.Failed lost) failed = refl
 -- What a write that is refused leaves: as many are lost as were held at most, and none is held.
 pub write_unheld : (was now : Carried) (before after : ℕ) (fault : LogFault) → (fault ≡ faults.Closed → ⊥) → FlushMayAnswer was now before after fault → held_in now.place ≡ 0
 write_unheld was now before after faults.Closed open_ cause = absurd (open_ refl)
+write_unheld was now before after (faults.Live number) open_ cause = absurd cause
 write_unheld was now before after faults.DiskFault open_ cause = failed_unheld now.place cause.1
 write_unheld was now before after (faults.Large bytes) open_ cause = absurd cause
 write_unheld was now before after (faults.NotLater last) open_ cause = absurd cause

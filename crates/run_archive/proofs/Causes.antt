@@ -6,7 +6,7 @@ use Rattle.pcp_outside.specs.declared.clocks.Clock.{Ghosts as ClockGhosts}
 use Rattle.pcp_outside.specs.declared.disk.Disk.{Ghosts as DiskGhosts}
 use Rattle.region_rule.specs.Seats.{Token}
 use Rattle.logger_core.specs.declared.fault.LogFault.{LogFault}
-use Rattle.logger_core.specs.declared.fault.LogFault.TheVariants.{Closed, Large, NotLater, Changed, Full, NoMemory, DiskFault}
+use Rattle.logger_core.specs.declared.fault.LogFault.TheVariants.{Closed, Live, Large, NotLater, Changed, Full, NoMemory, DiskFault}
 use Rattle.logging_session.specs.declared.place.Place.{Place}
 use Rattle.logging_session.specs.declared.place.Place.TheVariants.{Found, Open, Lost, Failed}
 use Rattle.logging_session.specs.Answers.{FlushMayAnswer, LogMayAnswer, StaysOpen}
@@ -71,6 +71,7 @@ working_few s n working = omega (arith, working_unlost s working)
 module _ (r : Report) (old new : Carried) (before after : ℕ) where
   pub working_unclosed : (fault : LogFault) → IsWorking old → LogMayAnswer r old new before after fault → fault ≡ Closed → ⊥
   working_unclosed Closed working may is = working_open old.place working may.0
+  working_unclosed (Live volume) working may is = cc
   working_unclosed (Large bytes) working may is = cc
   working_unclosed (NotLater last) working may is = cc
   working_unclosed (Changed pmid) working may is = cc
@@ -80,6 +81,7 @@ module _ (r : Report) (old new : Carried) (before after : ℕ) where
 
   pub told_may : (fault : LogFault) → IsWorking old → LogMayAnswer r old new before after fault → MayRefuse before after (ending_after fault)
   told_may Closed working may = absurd (working_open old.place working may.0)
+  told_may (Live volume) working may = absurd may
   told_may (Large bytes) working may = tt
   told_may (NotLater last) working may = tt
   told_may (Changed pmid) working may = tt
@@ -95,6 +97,7 @@ module _ (r : Report) (old new : Carried) (before after : ℕ) where
   -- unless the disk failed it goes on
   pub told_unfailed : (fault : LogFault) → LogMayAnswer r old new before after fault → ending_after fault ≢ ends.DiskFault → IsFailed new → ⊥
   told_unfailed Closed may other failed = other refl
+  told_unfailed (Live volume) may other failed = absurd may
   told_unfailed (Large bytes) may other failed = stays_unfailed may.0 failed
   told_unfailed (NotLater last) may other failed = stays_unfailed may.0 failed
   told_unfailed (Changed pmid) may other failed = stays_unfailed may.0 failed
@@ -106,6 +109,7 @@ module _ (r : Report) (old new : Carried) (before after : ℕ) where
   -- nothing is lost of it: the disk fails only where the archive was to be opened
   pub told_few : (fault : LogFault) (n : ℕ) → IsWorking old → LogMayAnswer r old new before after fault → lost_in new.place ≤ n
   told_few Closed n working may = absurd (working_open old.place working may.0)
+  told_few (Live volume) n working may = absurd may
   told_few (Large bytes) n working may = unfailed_few new n (stays_unfailed may.0)
   told_few (NotLater last) n working may = unfailed_few new n (stays_unfailed may.0)
   told_few (Changed pmid) n working may = unfailed_few new n (stays_unfailed may.0)
@@ -117,6 +121,7 @@ module _ (r : Report) (old new : Carried) (before after : ℕ) where
 -- a flush that is refused for another reason than that it is closed was refused by the disk
 pub flush_rose : (old new : Carried) (before after : ℕ) (fault : LogFault) → (fault ≡ Closed → ⊥) → FlushMayAnswer old new before after fault → Rose before after
 flush_rose old new before after Closed open_ may = absurd (open_ refl)
+flush_rose old new before after (Live volume) open_ may = absurd may
 flush_rose old new before after (Large bytes) open_ may = absurd may
 flush_rose old new before after (NotLater last) open_ may = absurd may
 flush_rose old new before after (Changed pmid) open_ may = absurd may
@@ -127,6 +132,7 @@ flush_rose old new before after DiskFault open_ may = may.3
 -- which lost at most what was held, and closed it
 pub flush_few : (old new : Carried) (before after : ℕ) (fault : LogFault) → (fault ≡ Closed → ⊥) → FlushMayAnswer old new before after fault → lost_in new.place ≤ held_in old.place
 flush_few old new before after Closed open_ may = absurd (open_ refl)
+flush_few old new before after (Live volume) open_ may = absurd may
 flush_few old new before after (Large bytes) open_ may = absurd may
 flush_few old new before after (NotLater last) open_ may = absurd may
 flush_few old new before after (Changed pmid) open_ may = absurd may
@@ -137,6 +143,7 @@ flush_few old new before after DiskFault open_ may = may.2
 -- a session that answered so is closed
 flush_closes : (old new : Carried) (before after : ℕ) (fault : LogFault) → FlushMayAnswer old new before after fault → IsClosed new
 flush_closes old new before after Closed may = subst IsClosed (sym may.1) may.0
+flush_closes old new before after (Live volume) may = absurd may
 flush_closes old new before after (Large bytes) may = absurd may
 flush_closes old new before after (NotLater last) may = absurd may
 flush_closes old new before after (Changed pmid) may = absurd may

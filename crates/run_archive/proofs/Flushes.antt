@@ -5,7 +5,7 @@ use Rattle.pcp_model.specs.LabelFields.{LabelFields}
 use Rattle.pcp_outside.specs.Causes.{Rose}
 use Rattle.pcp_outside.specs.declared.disk.Disk.{Ghosts as DiskGhosts}
 use Rattle.logger_core.specs.declared.fault.LogFault.{LogFault}
-use Rattle.logger_core.specs.declared.fault.LogFault.TheVariants.{Closed, Large, NotLater, Changed, Full, NoMemory, DiskFault}
+use Rattle.logger_core.specs.declared.fault.LogFault.TheVariants.{Closed, Live, Large, NotLater, Changed, Full, NoMemory, DiskFault}
 use Rattle.logging_session.specs.Course.{HasKept, HasNotClosed, HasNotFlushed, WentBy}
 use Rattle.logging_session.specs.Events.{Event, behind, closing, flushed_behind, items_by}
 use Rattle.logging_session.specs.Keeping.{Carried}
@@ -38,6 +38,7 @@ module _ {D : Type 0} (d : DiskGhosts D) (left : Files) (events : List Event) (s
   -- what was refused for another reason than that it is closed was refused by the disk
   pub flush_failed : (is : Carried) (new : D) (fault : LogFault) → (fault ≡ Closed → ⊥) → HasNotFlushed d left events start was is new fault → WentBy d run_label was.limit left events [] start new
   flush_failed is new Closed open_ h = absurd (open_ refl)
+  flush_failed is new (Live volume) open_ h = absurd h
   flush_failed is new (Large bytes) open_ h = absurd h
   flush_failed is new (NotLater last) open_ h = absurd h
   flush_failed is new (Changed pmid) open_ h = absurd h

@@ -11,7 +11,7 @@ use Rattle.archive_meta.specs.Enough.{AreEnough}
 use Rattle.fetch_answers.specs.declared.fetch.Fetched.{Fetched}
 use Rattle.fetch_engine.specs.declared.server.Mounted.{Mounted}
 use Rattle.logger_core.specs.declared.fault.LogFault.{LogFault}
-use Rattle.logger_core.specs.declared.fault.LogFault.TheVariants.{Closed, Large, NotLater, Changed, Full, NoMemory, DiskFault}
+use Rattle.logger_core.specs.declared.fault.LogFault.TheVariants.{Closed, Live, Large, NotLater, Changed, Full, NoMemory, DiskFault}
 use Rattle.logging_session.specs.Course.{HasKept, HasNotLogged, HasTurnedAway, WentBy}
 use Rattle.logging_session.specs.Events.{Event, LeadFrom, opening, with_report}
 use Rattle.logging_session.specs.Keeping.{Carried}
@@ -37,6 +37,7 @@ module _ {D : Type 0} (d : DiskGhosts D) (left : Files) (events : List Event) (s
 
 pub why_unlogged : (fault : LogFault) → (fault ≡ Closed → ⊥) → EndsUnlogged (ending_after fault)
 why_unlogged Closed open_ = absurd (open_ refl)
+why_unlogged (Live volume) open_ = tt
 why_unlogged (Large bytes) open_ = tt
 why_unlogged (NotLater last) open_ = tt
 why_unlogged (Changed pmid) open_ = tt
@@ -67,6 +68,7 @@ module _ {D : Type 0} (d : DiskGhosts D) (left : Files) (events : List Event) (f
 
   pub unlogged : (fault : LogFault) → (fault ≡ Closed → ⊥) → HasNotLogged d left events (report_of f) start was is new fault → LeavesUnlogged d left events start f is new (ending_after fault)
   unlogged Closed open_ h = absurd (open_ refl)
+  unlogged (Live volume) open_ h = absurd h
   unlogged (Large bytes) open_ h = turns_away (Large bytes) (ends.Limit kinds.Record bytes) refl h
   unlogged (NotLater last) open_ h = turns_away (NotLater last) (ends.NotLater last) refl h
   unlogged (Changed pmid) open_ h = turns_away (Changed pmid) (ends.Changed pmid) refl h

@@ -34,6 +34,8 @@ pub fn ending_after(fault: LogFault) -> Ending
         LogFault::Changed { pmid } => Ending::Changed { pmid },
         LogFault::Full { file, bytes } => ending_of_full(file, bytes),
         LogFault::NoMemory => Ending::NoMemory,
+        // A run retires no volume, so that this is never answered.
+        LogFault::Live { volume: _ } => Ending::DiskFault,
         LogFault::Closed => Ending::DiskFault,
         LogFault::DiskFault => Ending::DiskFault,
     }

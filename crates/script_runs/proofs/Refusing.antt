@@ -25,6 +25,7 @@ by_refusal P large meta index volume later changed (faults.Full files.Meta bytes
 by_refusal P large meta index volume later changed (faults.Full files.Index bytes) ending is = let e : ends.Limit kinds.Index bytes ≡ ending = cc in subst P e (index bytes)
 by_refusal P large meta index volume later changed (faults.Full (files.Volume n) bytes) ending is = let e : ends.Limit kinds.Volume bytes ≡ ending = cc in subst P e (volume bytes)
 by_refusal P large meta index volume later changed faults.Closed ending is = absurd cc
+by_refusal P large meta index volume later changed (faults.Live number) ending is = absurd cc
 by_refusal P large meta index volume later changed faults.NoMemory ending is = absurd cc
 by_refusal P large meta index volume later changed faults.DiskFault ending is = absurd cc
 

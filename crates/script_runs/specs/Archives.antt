@@ -41,6 +41,7 @@ ending_of (faults.NotLater last) = Some (ends.NotLater last)
 ending_of (faults.Changed pmid) = Some (ends.Changed pmid)
 ending_of (faults.Full file bytes) = Some (full_of file bytes)
 ending_of faults.Closed = None
+ending_of (faults.Live volume) = None
 ending_of faults.NoMemory = None
 ending_of faults.DiskFault = None
 
