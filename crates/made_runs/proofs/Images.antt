@@ -7,8 +7,9 @@ use Rattle.std.specs.Prelude.{◌==◌, nat_le, nat_lt}
 use Rattle.std.specs.List.{AllByRecursion as Each, list_all}
 use Rattle.mmv_layout.specs.declared.rows.MetricRow.{MetricRow}
 use Rattle.mmv_layout.specs.declared.rows.Slot.{Slot}
-use Rattle.mmv_layout.specs.Entries.{leads, help_leads, is_instance_of, has_good_run, has_serial, is_new_indom, is_good_indom, has_text, lies_in_run, is_same_instance, is_new_instance, is_good_instance, has_name, is_indom_serial, serial_leads, is_same_metric, is_new_metric, has_good_fields, is_good_metric, metric_of, instance_leads, choice_leads, is_same_value, is_new_value, is_good_value, is_good_string, indoms_are_good, instances_are_good, metrics_are_good, values_are_good, strings_are_good}
-use Rattle.mmv_layout.specs.EntryFields.{same_name}
+use Rattle.mmv_layout.specs.Entries.{leads, help_leads, name_leads, name_ends, is_passed_over, is_instance_of, has_good_run, has_serial, is_new_indom, is_good_indom, has_text, lies_in_run, is_same_instance, is_new_instance, is_good_instance, has_name, is_indom_serial, serial_leads, is_same_metric, is_new_metric, has_good_fields, is_good_metric, metric_of, instance_leads, choice_leads, is_same_value, is_new_value, is_good_value, is_good_string, indoms_are_good, instances_are_good, metrics_are_good, values_are_good, strings_are_good}
+use Rattle.mmv_layout.specs.Sizes.{name_width, name_room}
+use Rattle.mmv_layout.specs.EntryFields.{name_start, name_text, same_name}
 use Rattle.mmv_layout.specs.Below.{all_below, some_below}
 use Rattle.mmv_layout.specs.Contents.{section_bytes, end_in, section_lies, are_apart, is_first_of_type, has_good_section, is_aligned, sections_are_good, sections_are_aligned, find_section, section_of, cluster_in}
 use Rattle.mmv_layout.specs.Fields.{number64, number32, byte_at, text_at, has_zero, first_words}
@@ -16,7 +17,7 @@ use Rattle.mmv_layout.specs.Images.{has_good_header, is_image}
 use Rattle.mmv_layout.specs.Form.{slot_at, slots_of}
 use Rattle.mmv_layout.specs.Rows.{list_below, help_of, serial_of, metric_row, instance_of, metrics_of}
 use Rattle.mmv_writer.specs.Offsets.{sections_in}
-use Rattle.mmv_writer.specs.Spelling.{with_missing, all_strings, header_words, contents_words, domain_words, instance_words, metric_words, value_words, domain_section, instance_section, metric_section, value_section, string_section, sections_words, image_with_strings, image_words}
+use Rattle.mmv_writer.specs.Spelling.{with_missing, all_strings, header_words, contents_words, domain_words, name_words, instance_words, metric_words, value_words, domain_section, instance_section, metric_section, value_section, string_section, sections_words, image_with_strings, image_words}
 use Rattle.run_script.specs.Generated.{numbers, layout}
 use Rattle.std.specs.Fmt.{digits}
 use Rattle.region_core.specs.Shape.{IsWord}
@@ -53,7 +54,7 @@ is_made cluster words =
 
 -- so much is computed
 made : (is_made 1 (image_of 1 false) ≡ true) × (is_made 1 (image_of 1 true) ≡ true) × (is_made 2 (image_of 2 false) ≡ true) × (is_made 3 (image_of 3 false) ≡ true)
-unfolding leads help_leads is_instance_of has_good_run has_serial is_new_indom is_good_indom has_text lies_in_run is_same_instance is_new_instance is_good_instance has_name is_indom_serial serial_leads is_same_metric is_new_metric has_good_fields is_good_metric metric_of instance_leads choice_leads is_same_value is_new_value is_good_value is_good_string indoms_are_good instances_are_good metrics_are_good values_are_good strings_are_good same_name all_below some_below section_bytes end_in section_lies are_apart is_first_of_type has_good_section is_aligned sections_are_good sections_are_aligned find_section section_of number64 number32 byte_at text_at has_zero first_words has_good_header is_image slot_at slots_of list_below help_of serial_of metric_row instance_of metrics_of sections_in with_missing all_strings header_words contents_words domain_words instance_words metric_words value_words domain_section instance_section metric_section value_section string_section sections_words image_with_strings image_words numbers layout digits
+unfolding name_width name_room name_start name_text leads help_leads name_leads name_ends is_passed_over is_instance_of has_good_run has_serial is_new_indom is_good_indom has_text lies_in_run is_same_instance is_new_instance is_good_instance has_name is_indom_serial serial_leads is_same_metric is_new_metric has_good_fields is_good_metric metric_of instance_leads choice_leads is_same_value is_new_value is_good_value is_good_string indoms_are_good instances_are_good metrics_are_good values_are_good strings_are_good same_name all_below some_below section_bytes end_in section_lies are_apart is_first_of_type has_good_section is_aligned sections_are_good sections_are_aligned find_section section_of number64 number32 byte_at text_at has_zero first_words has_good_header is_image slot_at slots_of list_below help_of serial_of metric_row instance_of metrics_of sections_in with_missing all_strings header_words contents_words domain_words name_words instance_words metric_words value_words domain_section instance_section metric_section value_section string_section sections_words image_with_strings image_words numbers layout digits
 made = (refl, refl, refl, refl)
 
 -- The same as facts

@@ -3,6 +3,7 @@ use Rattle.std.proofs.Common.{◌≡◌, ℕ, zero, suc, ◌+◌, ◌≤◌, Lis
 use Rattle.std.proofs.lemmas.Bool.{le-leb}
 use Rattle.std.specs.Prelude.{Bool, true, false, if◌then◌else◌, codes}
 use Rattle.mmv_layout.specs.declared.rows.Layout.{Layout}
+use Rattle.mmv_layout.specs.Sizes.{name_width, name_room}
 use Rattle.mmv_writer.specs.Offsets.{sections_in}
 use Rattle.mmv_writer.specs.Spelling.{image_words, all_strings, with_missing}
 use Rattle.mmv_writer.proofs.Lengths.{length_spelled}
@@ -37,32 +38,32 @@ text cluster has = ((((codes "mmv 1 1 0 0 " ++ (48 + cluster) ∷ []) ++ rows) +
 
 -- so the text has this layout
 pub first_draft : text_draft (text 1 false) ≡ Ok (layout 1 false)
-unfolding text_draft draft_of with_lines with_said with_head with_line full_line_of lines_of prepend without_feed line_of mmv_line indom_line instance_line metric_line value_line number_content words_content last_content take_as take_word first_word behind_word optional text_byte text_within text_in_quotes take_text take_help number32 number64 whole_number int32 hex_number name_of kind_of semantics_of empty_draft with_domain add_instance with_instance with_metric with_value indom_fault instance_fault metric_fault value_fault layout numbers digits
+unfolding name_room text_draft draft_of with_lines with_said with_head with_line full_line_of lines_of prepend without_feed line_of mmv_line indom_line instance_line metric_line value_line number_content words_content last_content take_as take_word first_word behind_word optional text_byte text_within text_in_quotes take_text take_help number32 number64 whole_number int32 hex_number name_of kind_of semantics_of empty_draft with_domain add_instance with_instance with_metric with_value indom_fault instance_fault metric_fault value_fault layout numbers digits
 first_draft = refl
 
 pub second_draft : text_draft (text 2 false) ≡ Ok (layout 2 false)
-unfolding text_draft draft_of with_lines with_said with_head with_line full_line_of lines_of prepend without_feed line_of mmv_line indom_line instance_line metric_line value_line number_content words_content last_content take_as take_word first_word behind_word optional text_byte text_within text_in_quotes take_text take_help number32 number64 whole_number int32 hex_number name_of kind_of semantics_of empty_draft with_domain add_instance with_instance with_metric with_value indom_fault instance_fault metric_fault value_fault layout numbers digits
+unfolding name_room text_draft draft_of with_lines with_said with_head with_line full_line_of lines_of prepend without_feed line_of mmv_line indom_line instance_line metric_line value_line number_content words_content last_content take_as take_word first_word behind_word optional text_byte text_within text_in_quotes take_text take_help number32 number64 whole_number int32 hex_number name_of kind_of semantics_of empty_draft with_domain add_instance with_instance with_metric with_value indom_fault instance_fault metric_fault value_fault layout numbers digits
 second_draft = refl
 
 pub third_draft : text_draft (text 3 false) ≡ Ok (layout 3 false)
-unfolding text_draft draft_of with_lines with_said with_head with_line full_line_of lines_of prepend without_feed line_of mmv_line indom_line instance_line metric_line value_line number_content words_content last_content take_as take_word first_word behind_word optional text_byte text_within text_in_quotes take_text take_help number32 number64 whole_number int32 hex_number name_of kind_of semantics_of empty_draft with_domain add_instance with_instance with_metric with_value indom_fault instance_fault metric_fault value_fault layout numbers digits
+unfolding name_room text_draft draft_of with_lines with_said with_head with_line full_line_of lines_of prepend without_feed line_of mmv_line indom_line instance_line metric_line value_line number_content words_content last_content take_as take_word first_word behind_word optional text_byte text_within text_in_quotes take_text take_help number32 number64 whole_number int32 hex_number name_of kind_of semantics_of empty_draft with_domain add_instance with_instance with_metric with_value indom_fault instance_fault metric_fault value_fault layout numbers digits
 third_draft = refl
 
 pub late_draft : text_draft (text 1 true) ≡ Ok (layout 1 true)
-unfolding text_draft draft_of with_lines with_said with_head with_line full_line_of lines_of prepend without_feed line_of mmv_line indom_line instance_line metric_line value_line number_content words_content last_content take_as take_word first_word behind_word optional text_byte text_within text_in_quotes take_text take_help number32 number64 whole_number int32 hex_number name_of kind_of semantics_of empty_draft with_domain add_instance with_instance with_metric with_value indom_fault instance_fault metric_fault value_fault layout numbers digits
+unfolding name_room text_draft draft_of with_lines with_said with_head with_line full_line_of lines_of prepend without_feed line_of mmv_line indom_line instance_line metric_line value_line number_content words_content last_content take_as take_word first_word behind_word optional text_byte text_within text_in_quotes take_text take_help number32 number64 whole_number int32 hex_number name_of kind_of semantics_of empty_draft with_domain add_instance with_instance with_metric with_value indom_fault instance_fault metric_fault value_fault layout numbers digits
 late_draft = refl
 
 pub second_late_draft : text_draft (text 2 true) ≡ Ok (layout 2 true)
-unfolding text_draft draft_of with_lines with_said with_head with_line full_line_of lines_of prepend without_feed line_of mmv_line indom_line instance_line metric_line value_line number_content words_content last_content take_as take_word first_word behind_word optional text_byte text_within text_in_quotes take_text take_help number32 number64 whole_number int32 hex_number name_of kind_of semantics_of empty_draft with_domain add_instance with_instance with_metric with_value indom_fault instance_fault metric_fault value_fault layout numbers digits
+unfolding name_room text_draft draft_of with_lines with_said with_head with_line full_line_of lines_of prepend without_feed line_of mmv_line indom_line instance_line metric_line value_line number_content words_content last_content take_as take_word first_word behind_word optional text_byte text_within text_in_quotes take_text take_help number32 number64 whole_number int32 hex_number name_of kind_of semantics_of empty_draft with_domain add_instance with_instance with_metric with_value indom_fault instance_fault metric_fault value_fault layout numbers digits
 second_late_draft = refl
 
 pub third_late_draft : text_draft (text 3 true) ≡ Ok (layout 3 true)
-unfolding text_draft draft_of with_lines with_said with_head with_line full_line_of lines_of prepend without_feed line_of mmv_line indom_line instance_line metric_line value_line number_content words_content last_content take_as take_word first_word behind_word optional text_byte text_within text_in_quotes take_text take_help number32 number64 whole_number int32 hex_number name_of kind_of semantics_of empty_draft with_domain add_instance with_instance with_metric with_value indom_fault instance_fault metric_fault value_fault layout numbers digits
+unfolding name_room text_draft draft_of with_lines with_said with_head with_line full_line_of lines_of prepend without_feed line_of mmv_line indom_line instance_line metric_line value_line number_content words_content last_content take_as take_word first_word behind_word optional text_byte text_within text_in_quotes take_text take_help number32 number64 whole_number int32 hex_number name_of kind_of semantics_of empty_draft with_domain add_instance with_instance with_metric with_value indom_fault instance_fault metric_fault value_fault layout numbers digits
 third_late_draft = refl
 
 -- and its image is small
 pub small : (cluster : ℕ) (has : Bool) → length (image_words (layout cluster has)) ≤ 2048
-unfolding image_words all_strings with_missing layout numbers sections_in
+unfolding name_width image_words all_strings with_missing layout numbers sections_in
 small cluster false = subst (λ n. n ≤ 2048) (sym (length_spelled (layout cluster false) [])) (omega arith)
 small cluster true = subst (λ n. n ≤ 2048) (sym (length_spelled (layout cluster true) [])) (omega arith)
 
