@@ -1,4 +1,4 @@
--- How a disk goes on with a session, event by event: what it holds behind each of them, and what a crash leaves from then on.
+-- How a disk goes on with a session: what it holds behind its opening, its flushes and its syncs, and what a crash leaves from then on.
 use Rattle.std.specs.Prelude.{◌≡◌, ◌⊎◌, ℕ, List, [], ◌++◌, length}
 use Rattle.pcp_base.specs.declared.file.FileId.{FileId}
 use Rattle.pcp_base.specs.declared.result.Item.{Item}

@@ -43,7 +43,7 @@ abbrev pub held_in : Place → ℕ
 held_in (Open b) = counts_of b.runs
 held_in place = 0
 
--- how many that were held when the disk failed weren't written
+-- how many that were held are lost, since the disk failed: the first of them may stand
 abbrev pub lost_in : Place → ℕ
 lost_in (Failed lost) = lost
 lost_in place = 0

@@ -11,6 +11,6 @@ pub(crate) enum Place {
     Open(Batch),
     /// As recovery left it: memory was refused when it was to be opened, and nothing more is logged.
     Lost,
-    /// The disk failed, and nothing more is logged: what it left is to be recovered. So many results that were held weren't written.
+    /// The disk failed, and nothing more is logged: what it left is to be recovered. So many results that were held are lost; the first of them may stand.
     Failed(u32),
 }

@@ -160,7 +160,8 @@ impl Session {
         }
     }
 
-    /// How many results were held when the disk failed and weren't written: the last ones of those that were logged. 0 unless it failed.
+    /// How many results that were held are lost, since the disk failed: the last ones of those that were logged, of which the first may stand.
+    /// 0 unless it failed.
     pub fn lost(&self) -> u32
         ensures value { result ≡ lost_in self.now.place }
         ensures few { result ≤ self.now.logged }

@@ -13,7 +13,7 @@ ghost use Rattle.logging_session.specs.Answers.{HasPassedBut, IsMadeSure};
 use logger_core::{Batch, LogFault};
 use pcp_outside::Disk;
 
-/// Writes all that is held. Where the disk fails the error is how many of the results weren't written.
+/// Writes all that is held. Where the disk fails the error is how many of the results are lost; the first of them may stand.
 pub(crate) fn write_held<D: Disk>(batch: &mut Batch, disk: &mut D) -> Result<(), u32>
     requires open_ { batch.old.kept.closed ≡ false }
     ensures done { D.tells → (m o : Meant) (pending : Sequence Told) → IsHolding m batch.old pending o (D.held disk.old) → OnOk result (IsHolding o batch.new [] o (D.held disk.new)) }
@@ -56,7 +56,7 @@ fn make_written_sure<D: Disk>(
 }
 
 /// Writes all that is held, makes all that was logged sure, and where that is wanted puts an entry behind the index where one is due. Where the
-/// disk fails the error is how many of the results weren't written.
+/// disk fails the error is how many of the results are lost.
 pub(crate) fn make_batch_sure<D: Disk>(
     batch: &mut Batch,
     disk: &mut D,

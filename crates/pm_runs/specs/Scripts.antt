@@ -133,7 +133,8 @@ pub record StandsDone (d : DiskSide) : Type 0 where
   pub settled : IsSettled d.after
   pub sound : LeavesSound (contents_of d.held) (contents_of d.after)
 
--- From recovery's answer on the disk went by the events of the script's run, one behind another, each acknowledged from its flush on.
+-- From recovery's answer on the disk went by the events of the script's run, as far as the opening and flushes tell, each acknowledged from its
+-- flush on.
 abbrev pub ScriptSince : {D : Type 0} → DiskGhosts D → Runner → List ℕ → D → D → Type 0
 ScriptSince g c input old new =
     OfScript c input (λ script.

@@ -157,8 +157,8 @@ pub fn replay_script<D: Disk>(
     requires fresh { IsOpened script 1 opened.old }
     requires limit { (1024 ≤ volume) × (volume ≤ 1073741824) }
     // Over any disk the lines of the fold were run up to its end, by the regions that were handed in and nothing else, and what is written is
-    // theirs. Over a disk that tells, the files went by the fold's events, one behind another: from each on, a crash leaves all that it
-    // acknowledged; and at any moment, over a settled disk, all items of the start and some first ones of the run. Where the disk failed before
+    // theirs. Over a disk that tells, the files went by the fold's events, as far as the opening and each flush tell: from each on, a crash leaves
+    // all that it acknowledged; and at any moment, over a settled disk, all items of the start and some first ones of the run. Where the disk failed before
     // results were written that were held, the run ended at the tick of the first of these, though its regions went on.
     ensures runs { (seat : Seated) → slice_get opened.new.seats.items 0 ≡ Some seat → IsReplay D.Disk script volume opened.new.server seat.tokens disk.old disk.new result }
     ensures seated { (seat : Seated) → slice_get opened.new.seats.items 0 ≡ Some seat → IsSeated opened.new.server seat.tokens }

@@ -49,7 +49,8 @@ module _ {D : Type 0} (d : DiskGhosts D) (limit : ℕ) (events : List Event) (mo
     pub survive : (image : Files) → CrashImage (d.held new) image → IsAllAfter (items_by events) (contents_of (d.held old)) image
 
   -- Recovery answered: no file stood wrapped, and at that moment the files were what it leaves of those at the start, each byte sure. From
-  -- then on the disk went by these events, one behind another; of more items, which were on their way, the first ones may stand.
+  -- then on the disk went by these events, as far as the opening, flushes and syncs tell; of more items, which were on their way, the first
+  -- ones may stand.
   pub record WentOn (ending : Ending) : Type 0 where
     pub reading : ArchiveReading
     pub was : Reads (contents_of (d.held old)) reading

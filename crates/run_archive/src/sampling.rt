@@ -58,7 +58,7 @@ pub fn sample_at<'a, D: Disk>(
     ensures held { OnOk result (held_in sampler.new.session.place ≤ held_in sampler.old.session.place + 1) }
     ensures unheld { OnErr result (held_in sampler.new.session.place ≤ held_in sampler.old.session.place) }
     ensures lost { lost_in sampler.new.session.place ≤ held_in sampler.old.session.place }
-    // Where no metric is asked for nothing is held.
+    // Where no metric is asked for nothing more is held.
     ensures idle { IfOk result (λ count. count ≡ 0 → held_in sampler.new.session.place ≤ held_in sampler.old.session.place) }
     ensures goes { IfOk result (TakesAt D.Disk script.now.config.groups server.now sampler.old sampler.new seat.old.tokens seat.new.tokens disk.old disk.new now) }
     ensures stops { IfErr result (StopsAt D.Disk script.now.config.groups server.now sampler.old sampler.new seat.old.tokens seat.new.tokens disk.old disk.new now) }
@@ -111,7 +111,7 @@ pub fn sample<'a, D: Disk, C: Clock, T: Turn>(
     ensures loads { AreLoaded seat.old.tokens seat.new.tokens }
     ensures same { (sampler.new.session.label ≡ sampler.old.session.label) × (sampler.new.session.limit ≡ sampler.old.session.limit) }
     ensures count { sampler.new.session.logged ≤ sampler.old.session.logged + 1 }
-    // Between samples nothing is held.
+    // Where nothing was held nothing is.
     ensures held { held_in sampler.old.session.place ≡ 0 → held_in sampler.new.session.place ≡ 0 }
     ensures goes { OnOk result ((s : SampleTaken) × GoesOn C.Clock D.Disk script.now.config.groups server.now sampler.old sampler.new seat.old.tokens seat.new.tokens clock.old clock.new disk.old disk.new (s ∷ [])) }
     ensures stops { IfErr result (StopsSampling C.Clock D.Disk script.now.config.groups server.now sampler.old sampler.new seat.old.tokens seat.new.tokens clock.old clock.new disk.old disk.new [] left) }
@@ -153,7 +153,7 @@ pub fn sample_all<'a, D: Disk, C: Clock, T: Turn>(
     ensures loads { AreLoaded seat.old.tokens seat.new.tokens }
     ensures same { (sampler.new.session.label ≡ sampler.old.session.label) × (sampler.new.session.limit ≡ sampler.old.session.limit) }
     ensures count { sampler.new.session.logged ≤ count }
-    // Between samples nothing is held.
+    // Where nothing was held nothing is.
     ensures held { held_in sampler.old.session.place ≡ 0 → held_in sampler.new.session.place ≡ 0 }
     ensures goes { OnOk result ((taken : Sequence SampleTaken) × (length taken ≡ count) × GoesOn C.Clock D.Disk script.now.config.groups server.now sampler.old sampler.new seat.old.tokens seat.new.tokens clock.old clock.new disk.old disk.new taken) }
     ensures stops { IfErr result (λ e. (taken : Sequence SampleTaken) × (left : ℕ) × (length taken + left ≡ samples) × (length taken < count)
