@@ -1,5 +1,5 @@
 //! The instances that hold of a domain, found by their numbers.
-ghost use Rattle.std.specs.Prelude.{◌≡◌, ℤ, [], ◌++◌, None, IfOk, OnOk, slice_get};
+ghost use Rattle.std.specs.Prelude.{◌≡◌, ℤ, [], ◌++◌, None, IfOk, OnOk, slice_get, option_map, unwrap_or};
 ghost use Rattle.std.specs.Ordering.{int_eq};
 ghost use Rattle.std.specs.Option.{option_copied};
 ghost use Rattle.indexmap.specs.IndexMap.{get};
@@ -7,7 +7,8 @@ ghost use Rattle.pm_print.specs.Sets.{name_in, position_in, instance_text, insta
 
 use crate::values::put_signed;
 use indexmap::IndexMap;
-use pcp_base::{NoMemory, Text};
+use pcp_base::NoMemory;
+use pcp_model::DomainInstances;
 use std::alloc::Global;
 use std::marker::Model;
 use text_lines::put_escapes;
@@ -15,12 +16,13 @@ use text_lines::put_escapes;
 /// The instances of a domain, and where the first with each number stands.
 #[derive(Drop)]
 pub struct Instances<'a> {
-    pairs: &'a [(i32, Text)],
+    listed: Option<&'a DomainInstances>,
     positions: IndexMap<i32, usize>,
 }
 
 impl<'a> Model for Instances<'a> {
-    ghost use Rattle.std.specs.Prelude.{◌≡◌, ℤ};
+    ghost use Rattle.std.specs.Prelude.{◌≡◌, ℤ, [], unwrap_or};
+    ghost use Rattle.std.specs.Option.{option_copied};
     ghost use Rattle.std.specs.Ordering.{int_eq};
     ghost use Rattle.indexmap.specs.IndexMap.{get};
     ghost use Rattle.pm_print.specs.Holding.{Pairs};
@@ -28,20 +30,22 @@ impl<'a> Model for Instances<'a> {
 
     ghost Value = { Pairs };
 
-    ghost view = { λ a. a.pairs.now };
+    ghost view = { λ a. unwrap_or (option_copied a.listed) [] };
 
-    ghost invariant = { λ a. (n : ℤ) → get int_eq a.positions n ≡ position_in 0 a.pairs.now n };
+    ghost invariant = { λ a. (n : ℤ) → get int_eq a.positions n ≡ position_in 0 (unwrap_or (option_copied a.listed) []) n };
 }
 
 // Where the first instance with each number stands.
-fn positions_of(alloc: Global, pairs: &[(i32, Text)]) -> Result<IndexMap<i32, usize>, NoMemory>
-    ensures { IfOk result (λ positions. (n : ℤ) → get int_eq positions n ≡ position_in 0 pairs.now n) }
+fn positions_of(alloc: Global, listed: &DomainInstances) -> Result<IndexMap<i32, usize>, NoMemory>
+    ensures { IfOk result (λ positions. (n : ℤ) → get int_eq positions n ≡ position_in 0 listed.now n) }
 {
     let mut positions = IndexMap::new(alloc);
-    let mut at = pairs.len();
+    let mut at = listed.len();
     while at > 0 {
         at -= 1;
-        positions.insert(pairs[at].0, at)?;
+        if let Some(number) = listed.number(at) {
+            positions.insert(number, at)?;
+        }
     }
     Ok(positions)
 }
@@ -52,28 +56,28 @@ impl<'a> Instances<'a> {
         ensures { result ≡ [] }
     {
         Instances {
-            pairs: &[],
+            listed: None,
             positions: IndexMap::new(alloc),
         }
     }
 
-    /// The instances of these pairs; of two with one number the first counts.
-    pub fn of(alloc: Global, pairs: &'a [(i32, Text)]) -> Result<Instances<'a>, NoMemory>
-        ensures { IfOk result (λ instances. instances ≡ pairs.now) }
+    /// These instances; of two with one number the first counts.
+    pub fn of(alloc: Global, listed: &'a DomainInstances) -> Result<Instances<'a>, NoMemory>
+        ensures { IfOk result (λ instances. instances ≡ listed.now) }
     {
-        let positions = positions_of(alloc, pairs)?;
-        Ok(Instances { pairs, positions })
+        let positions = positions_of(alloc, listed)?;
+        Ok(Instances {
+            listed: Some(listed),
+            positions,
+        })
     }
 
     /// The name of the first instance with a number.
-    fn name(&self, number: i32) -> Option<&Text>
+    fn name(&self, number: i32) -> Option<&[u8]>
         ensures { option_copied result ≡ name_in self.now number }
     {
         match self.positions.get(&number) {
-            Some(at) => match pair_at(self.pairs, *at) {
-                Some(pair) => Some(&pair.1),
-                None => None,
-            },
+            Some(at) => name_at(self.listed, *at),
             None => None,
         }
     }
@@ -88,7 +92,7 @@ impl<'a> Instances<'a> {
         }
         out.push(b'[')?;
         match self.name(number) {
-            Some(name) => put_escapes(out, name.as_slice())?,
+            Some(name) => put_escapes(out, name)?,
             None => put_number(out, number)?,
         }
         out.push(b']')?;
@@ -96,10 +100,17 @@ impl<'a> Instances<'a> {
     }
 }
 
-fn pair_at(pairs: &[(i32, Text)], at: usize) -> Option<&(i32, Text)>
-    ensures { option_copied result ≡ slice_get pairs.now at }
+// The name of the instance at a position, where there are any.
+fn name_at<'a>(listed: Option<&'a DomainInstances>, at: usize) -> Option<&'a [u8]>
+    ensures { option_copied result ≡ option_map (λ pair. pair.1) (slice_get (unwrap_or (option_copied listed.entry) []) at) }
 {
-    pairs.get(at)
+    match listed {
+        Some(instances) => match instances.get(at) {
+            Some((_, name)) => Some(name),
+            None => None,
+        },
+        None => None,
+    }
 }
 
 // `#NUMBER`

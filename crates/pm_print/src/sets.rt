@@ -71,7 +71,7 @@ fn instances_of(
         return Ok(Instances::none(alloc));
     };
     match meta.domain_at(desc.indom, stamp) {
-        Some(pairs) => Instances::of(alloc, pairs.as_slice()),
+        Some(listed) => Instances::of(alloc, listed),
         None => Ok(Instances::none(alloc)),
     }
 }

@@ -7,8 +7,8 @@ use Rattle.pm_print.proofs.instances.positions_of.Given as goal
 
 abbrev pub invariant-loop-at : goal.invariant-loop-at
 invariant-loop-at l = record {
-  noted : (n : ℤ) → get int_eq l.positions n ≡ position_in l.at (drop l.at l.pairs) n;
-  within : l.at ≤ length l.pairs;
+  noted : (n : ℤ) → get int_eq l.positions n ≡ position_in l.at (drop l.at l.listed) n;
+  within : l.at ≤ length l.listed;
 }
 
 abbrev pub decreases-loop-at : goal.decreases-loop-at

@@ -7,7 +7,7 @@ use Rattle.pm_print.proofs.sets.instances_of.Goals as goal
 pub returns-in-Some-domain_at : goal.returns-in-Some-domain_at
 returns-in-Some-domain_at c =
     IfOk-weaker c.of.result _ _
-    (λ v e. e ∙ c.as_slice.ensures ∙ sym (held_is_found c.in-Some.desc.now.indom c.args.stamp c.args.meta.now c.in-Some-domain_at.pairs.now c.in-Some-domain_at.ensures)
+    (λ v e. e ∙ sym (held_is_found c.in-Some.desc.now.indom c.args.stamp c.args.meta.now c.in-Some-domain_at.listed.now c.in-Some-domain_at.ensures)
     ∙ ap (λ d. instances_at c.args.meta.now d c.args.stamp) c.in-Some.ensures)
     c.of.ensures
 
