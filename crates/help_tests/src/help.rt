@@ -4,7 +4,7 @@ use pcp_outside::MemSink;
 use pcp_shell::write_help;
 use std::test::Fail;
 
-const LINES: [&str; 14] = [
+const LINES: [&str; 15] = [
     "\n  once SEC USEC FILE ",
     "\n  replay VOLUME ",
     "\n  make NUMBER TICKS VOLUME ",
@@ -19,6 +19,7 @@ const LINES: [&str; 14] = [
     "\n  check ",
     "\n  mmv-make ",
     "\n  mmv-dump ",
+    "\n  mmv-lift ",
 ];
 
 #[test]

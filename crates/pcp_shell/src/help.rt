@@ -13,7 +13,7 @@ const ENDING: &str =
     "BASE begins the names of the archive's files: BASE.meta, BASE.index, BASE.0 and so on.";
 
 // Each command with its words, and what it does.
-const COMMANDS: [(&str, &str); 14] = [
+const COMMANDS: [(&str, &str); 15] = [
     (
         "once SEC USEC FILE",
         "Log the values of an image as one result",
@@ -49,6 +49,7 @@ const COMMANDS: [(&str, &str); 14] = [
     ),
     ("mmv-make", "Make the image of a layout text"),
     ("mmv-dump", "Print an image as a layout text"),
+    ("mmv-lift", "Make the version 2 image of an image"),
 ];
 
 /// Whether the words of the program ask for its help: its own name stands first, and `--help` is the only other word.

@@ -22,7 +22,7 @@ use Rattle.run_script.specs.declared.script.Script.{Script}
 use Rattle.pm_words.specs.declared.refusal.Refusal.{Refusal}
 use Rattle.pm_words.specs.declared.refusal.Refusal.TheVariants.{Compressed, NotArchive, Nothing, UnsoundItems, UnsoundBoundary, UnsoundLate}
 use Rattle.pm_words.specs.declared.words.Command.{Command}
-use Rattle.pm_words.specs.declared.words.Command.TheVariants.{Once, Replay, Make, MmvMake, MmvDump, Dump, Info, Check, Recover, At, Range, Value, Record, Serve}
+use Rattle.pm_words.specs.declared.words.Command.TheVariants.{Once, Replay, Make, MmvMake, MmvDump, MmvLift, Dump, Info, Check, Recover, At, Range, Value, Record, Serve}
 use Rattle.pm_words.specs.declared.words.ValueWords.{ValueWords}
 use Rattle.pm_words.specs.Refusals.{IsOfSoundness, ending_refusal, status_of}
 use Rattle.pm_words.specs.Sides.{Found}
@@ -138,6 +138,7 @@ only_check (Replay volume) input f e of t = absurd (no_runner (replaying volume)
 only_check (Make asked) input f e of t = absurd (no_runner (making asked) input f e of t)
 only_check MmvMake input f e of t = absurd t
 only_check MmvDump input f e of t = absurd t
+only_check MmvLift input f e of t = absurd t
 only_check Dump input f e of t = absurd (no_look dump.BadRecord f e of (λ r why. no_dump r f e of why) t)
 only_check Info input f e of t = absurd (not_judged f e of t)
 only_check Check input f e of t = refl

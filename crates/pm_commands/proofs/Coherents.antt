@@ -1,9 +1,9 @@
 -- The laws of each command's meaning.
 use Rattle.std.proofs.Common.{None, []}
 use Rattle.pm_words.specs.declared.words.Command.{Command}
-use Rattle.pm_words.specs.declared.words.Command.TheVariants.{Once, Replay, Make, MmvMake, MmvDump, Dump, Info, Check, Recover, At, Range, Value, Record, Serve}
+use Rattle.pm_words.specs.declared.words.Command.TheVariants.{Once, Replay, Make, MmvMake, MmvDump, MmvLift, Dump, Info, Check, Recover, At, Range, Value, Record, Serve}
 use Rattle.pm_words.proofs.Coherent.{IsCoherent, converts_coherent}
-use Rattle.pm_tasks.proofs.Coherent.{at_coherent, check_coherent, dump_coherent, info_coherent, mmv_dump_coherent, mmv_make_coherent, range_coherent, value_coherent}
+use Rattle.pm_tasks.proofs.Coherent.{at_coherent, check_coherent, dump_coherent, info_coherent, mmv_dump_coherent, mmv_lift_coherent, mmv_make_coherent, range_coherent, value_coherent}
 use Rattle.pm_runs.proofs.Coherent.{recover_coherent, runs_coherent}
 use Rattle.pm_runs.specs.commands.make.{making}
 use Rattle.pm_runs.specs.commands.once.{logging}
@@ -16,6 +16,7 @@ coherent (Replay volume) = runs_coherent (replaying volume)
 coherent (Make asked) = runs_coherent (making asked)
 coherent MmvMake = mmv_make_coherent
 coherent MmvDump = mmv_dump_coherent
+coherent MmvLift = mmv_lift_coherent
 coherent Dump = dump_coherent
 coherent Info = info_coherent
 coherent Check = check_coherent

@@ -1,7 +1,7 @@
 -- The meaning of each command. Where a new one goes: its variant and its words in pm_words, its meaning here, its body in `serve`.
 use Rattle.std.specs.Prelude.{Bool, true, [], None}
 use Rattle.pm_words.specs.declared.words.Command.{Command}
-use Rattle.pm_words.specs.declared.words.Command.TheVariants.{Once, Replay, Make, MmvMake, MmvDump, Dump, Info, Check, Recover, At, Range, Value, Record, Serve}
+use Rattle.pm_words.specs.declared.words.Command.TheVariants.{Once, Replay, Make, MmvMake, MmvDump, MmvLift, Dump, Info, Check, Recover, At, Range, Value, Record, Serve}
 use Rattle.pm_words.specs.Meaning.{Meaning, converts}
 use Rattle.pm_tasks.specs.commands.at.{at}
 use Rattle.pm_tasks.specs.commands.check.{check}
@@ -9,6 +9,7 @@ use Rattle.pm_tasks.specs.commands.dump.{dump}
 use Rattle.pm_tasks.specs.commands.info.{info}
 use Rattle.pm_runs.specs.commands.make.{make}
 use Rattle.pm_tasks.specs.commands.mmv_dump.{mmv_dump}
+use Rattle.pm_tasks.specs.commands.mmv_lift.{mmv_lift}
 use Rattle.pm_tasks.specs.commands.mmv_make.{mmv_make}
 use Rattle.pm_runs.specs.commands.once.{once}
 use Rattle.pm_runs.specs.commands.recover.{recover}
@@ -26,6 +27,7 @@ meaning (Replay volume) = replay volume
 meaning (Make asked) = make asked
 meaning MmvMake = mmv_make
 meaning MmvDump = mmv_dump
+meaning MmvLift = mmv_lift
 meaning Dump = dump
 meaning Info = info
 meaning Check = check

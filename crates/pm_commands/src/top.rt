@@ -13,7 +13,7 @@ ghost use Rattle.pm_commands.specs.Running.{Runs};
 use pcp_base::Bytes;
 use pcp_outside::{Disk, Sink, Source};
 use pm_runs::{make, once, recover, replay};
-use pm_tasks::{at, check, dump, info, mmv_dump, mmv_make, range, value};
+use pm_tasks::{at, check, dump, info, mmv_dump, mmv_lift, mmv_make, range, value};
 use pm_words::{Call, Command, Refusal, ask, tell_end};
 use run_passes::Opened;
 use std::alloc::Global;
@@ -55,6 +55,7 @@ fn serve<O: Sink, D: Disk>(
         Command::Make(asked) => make(alloc, asked, disk, opened),
         Command::MmvMake => mmv_make(alloc, input),
         Command::MmvDump => mmv_dump(alloc, input),
+        Command::MmvLift => mmv_lift(alloc, input),
         Command::Dump => dump(alloc, out, failed, disk),
         Command::Info => info(alloc, disk),
         Command::Check => check(alloc, disk),

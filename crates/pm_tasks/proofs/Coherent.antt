@@ -9,6 +9,7 @@ use Rattle.pm_tasks.specs.commands.check as check
 use Rattle.pm_tasks.specs.commands.dump as dump
 use Rattle.pm_tasks.specs.commands.info as info
 use Rattle.pm_tasks.specs.commands.mmv_dump as mmv_dump
+use Rattle.pm_tasks.specs.commands.mmv_lift as mmv_lift
 use Rattle.pm_tasks.specs.commands.mmv_make as mmv_make
 use Rattle.pm_tasks.specs.commands.range as range
 use Rattle.pm_tasks.specs.commands.value as value
@@ -39,3 +40,6 @@ mmv_make_coherent = converts_coherent mmv_make.refuses mmv_make.makes
 
 pub mmv_dump_coherent : IsCoherent mmv_dump.mmv_dump
 mmv_dump_coherent = converts_coherent mmv_dump.refuses mmv_dump.makes
+
+pub mmv_lift_coherent : IsCoherent mmv_lift.mmv_lift
+mmv_lift_coherent = converts_coherent mmv_lift.refuses mmv_lift.makes

@@ -5,6 +5,7 @@ pub(crate) mod check;
 pub(crate) mod dump;
 pub(crate) mod info;
 pub(crate) mod mmv_dump;
+pub(crate) mod mmv_lift;
 pub(crate) mod mmv_make;
 pub(crate) mod range;
 pub(crate) mod value;

@@ -9,6 +9,7 @@ pub use commands::check::check;
 pub use commands::dump::dump;
 pub use commands::info::info;
 pub use commands::mmv_dump::mmv_dump;
+pub use commands::mmv_lift::mmv_lift;
 pub use commands::mmv_make::mmv_make;
 pub use commands::range::range;
 pub use commands::value::value;

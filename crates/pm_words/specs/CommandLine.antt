@@ -7,7 +7,7 @@ use Rattle.text_lines.specs.Numbers.{number_of}
 use Rattle.pm_words.specs.declared.words.Command.{Command}
 use Rattle.pm_words.specs.declared.words.Call.{Call}
 use Rattle.pm_words.specs.declared.words.Call.TheVariants as calls
-use Rattle.pm_words.specs.declared.words.Command.TheVariants.{Once, Replay, Make, MmvMake, MmvDump, Dump, Info, Check, Recover, At, Range, Value, Record, Serve}
+use Rattle.pm_words.specs.declared.words.Command.TheVariants.{Once, Replay, Make, MmvMake, MmvDump, MmvLift, Dump, Info, Check, Recover, At, Range, Value, Record, Serve}
 use Rattle.pm_words.specs.declared.refusal.Refusal.{Refusal}
 use Rattle.pm_words.specs.declared.refusal.Refusal.TheVariants.{Usage, NoMemory}
 use Rattle.pm_words.specs.declared.words.BadWord.{BadWord}
@@ -125,7 +125,8 @@ value_of words = do
 abbrev pub image_command_of : List ℕ → List (List ℕ) → Result Command ℕ
 image_command_of word words =
     if bytes_eq word (codes "mmv-make") then end_then MmvMake 1 words else
-    if bytes_eq word (codes "mmv-dump") then end_then MmvDump 1 words else Err 0
+    if bytes_eq word (codes "mmv-dump") then end_then MmvDump 1 words else
+    if bytes_eq word (codes "mmv-lift") then end_then MmvLift 1 words else Err 0
 
 -- the commands over an archive, without a further word
 abbrev pub archive_command_of : List ℕ → List (List ℕ) → Result Command ℕ
@@ -187,6 +188,7 @@ takes_input (Once asked) = true
 takes_input (Replay volume) = true
 takes_input MmvMake = true
 takes_input MmvDump = true
+takes_input MmvLift = true
 takes_input (Record asked) = true
 takes_input (Serve count) = true
 takes_input _ = false

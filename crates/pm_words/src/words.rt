@@ -24,6 +24,8 @@ pub enum Command {
     MmvMake,
     /// `mmv-dump`: write the layout text of an image.
     MmvDump,
+    /// `mmv-lift`: make the version 2 image of an image's layout.
+    MmvLift,
     /// `dump`: write an archive's label and all its items.
     Dump,
     /// `info`: write an archive's descriptions.
@@ -113,6 +115,7 @@ impl Command {
             | Command::Replay(_)
             | Command::MmvMake
             | Command::MmvDump
+            | Command::MmvLift
             | Command::Record(_)
             | Command::Serve(_) => true,
             _ => false,
@@ -373,6 +376,10 @@ fn image_words(name: &[u8], words: &[String]) -> Result<Command, BadWord>
     if name == b"mmv-dump".as_slice() {
         end_at(words, 1)?;
         return Ok(Command::MmvDump);
+    }
+    if name == b"mmv-lift".as_slice() {
+        end_at(words, 1)?;
+        return Ok(Command::MmvLift);
     }
     Err(BadWord { at: 0 })
 }

@@ -2,6 +2,7 @@
 use Rattle.std.proofs.Common.{refl}
 use Rattle.pcp_outside.specs.Sides.{sink_side}
 use Rattle.pm_tasks.specs.commands.mmv_dump as mmv_dump
+use Rattle.pm_tasks.specs.commands.mmv_lift as mmv_lift
 use Rattle.pm_tasks.specs.commands.mmv_make as mmv_make
 use Rattle.pm_tasks.proofs.Converted.{converted}
 use Rattle.pm_commands.proofs.Served.{quietly, sending, without_regions}
@@ -47,4 +48,10 @@ pub returns-in-MmvDump : goal.returns-in-MmvDump
 returns-in-MmvDump g c = record {
   meets = without_regions g.O.Sink c.args.out.now c.args.failed.now c.requires.fresh c.args.input.now g.D.Disk c.args.disk.now c.args.disk.now c.args.opened.now c.mmv_dump.result _ c.args.command.now c.in-MmvDump.is c.requires.closed
       (converted mmv_dump.refuses mmv_dump.makes c.args.input.now g.D.Disk c.args.disk.now c.mmv_dump.result g.met.D.Disk.only_now c.mmv_dump.ensures.converts);
+}
+
+pub returns-in-MmvLift : goal.returns-in-MmvLift
+returns-in-MmvLift g c = record {
+  meets = without_regions g.O.Sink c.args.out.now c.args.failed.now c.requires.fresh c.args.input.now g.D.Disk c.args.disk.now c.args.disk.now c.args.opened.now c.mmv_lift.result _ c.args.command.now c.in-MmvLift.is c.requires.closed
+      (converted mmv_lift.refuses mmv_lift.makes c.args.input.now g.D.Disk c.args.disk.now c.mmv_lift.result g.met.D.Disk.only_now c.mmv_lift.ensures.converts);
 }
