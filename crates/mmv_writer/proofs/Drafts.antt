@@ -45,9 +45,9 @@ four true false false e f g k l h = cc
 four true false true true f g k l h = cc
 four true false true false f g k l h = (refl, refl, refl, refl)
 
-pub instance_rules : (draft : Layout) (serial : ℕ) (id : ℤ) (name : List ℕ) → instance_fault draft serial id name ≡ None → (is_instance_name name ≡ true) × (has_same_instance draft.indoms serial (id, name) ≡ false) × (has_domain draft.indoms serial ≡ true) × (is_negative id ≡ false)
+pub instance_rules : (draft : Layout) (serial : ℕ) (id : ℤ) (name : List ℕ) → instance_fault draft serial id name ≡ None → (is_instance_name draft.version name ≡ true) × (has_same_instance draft.indoms serial (id, name) ≡ false) × (has_domain draft.indoms serial ≡ true) × (is_negative id ≡ false)
 unfolding instance_fault
-instance_rules draft serial id name h = four (is_instance_name name) (has_same_instance draft.indoms serial (id, name)) (has_domain draft.indoms serial) (is_negative id) Name Duplicate (Unknown serial) Serial h
+instance_rules draft serial id name h = four (is_instance_name draft.version name) (has_same_instance draft.indoms serial (id, name)) (has_domain draft.indoms serial) (is_negative id) Name Duplicate (Unknown serial) Serial h
 
 metric_three : (a b c : Bool) (lacks : Option ℕ) (e : Bool) (f g k : BuildFault) → cond (not a || b) (Some f) (cond c (Some g) (unknown_or lacks (cond e None (Some k)))) ≡ None → (a ≡ true) × (c ≡ false) × (lacks ≡ None) × (e ≡ true)
 metric_three false b c lacks e f g k h = cc
@@ -57,10 +57,10 @@ metric_three true false false None true f g k h = (refl, refl, refl, refl)
 metric_three true false false None false f g k h = cc
 metric_three true false false (Some s) e f g k h = cc
 
-pub metric_rules : (draft : Layout) (row : MetricRow) → metric_fault draft row ≡ None → (is_metric_name row.name ≡ true) × (list_any (λ other. is_same_metric other row) draft.metrics ≡ false) × (lacks_domain draft.indoms row.serial ≡ None) × (nat_le row.item 1023 ≡ true)
+pub metric_rules : (draft : Layout) (row : MetricRow) → metric_fault draft row ≡ None → (is_metric_name draft.version row.name ≡ true) × (list_any (λ other. is_same_metric other row) draft.metrics ≡ false) × (lacks_domain draft.indoms row.serial ≡ None) × (nat_le row.item 1023 ≡ true)
 unfolding metric_fault
 metric_rules draft row h =
-    metric_three (is_metric_name row.name) (is_long_help row.short || is_long_help row.long) (list_any (λ other. is_same_metric other row) draft.metrics) (lacks_domain draft.indoms row.serial) (nat_le row.item 1023) Name Duplicate Item h
+    metric_three (is_metric_name draft.version row.name) (is_long_help row.short || is_long_help row.long) (list_any (λ other. is_same_metric other row) draft.metrics) (lacks_domain draft.indoms row.serial) (nat_le row.item 1023) Name Duplicate Item h
 
 pub string_rule : (text : List ℕ) → text_fault text ≡ None → is_long text ≡ false
 unfolding text_fault
@@ -84,8 +84,8 @@ widened : (ix : List IndomRow) (serial : Option ℕ) (more : List IndomRow) → 
 widened ix None more wide h = tt
 widened ix (Some s) more wide h = wide s h
 
-metric_stays : (ix more : List IndomRow) (row : MetricRow) → ((s : ℕ) → has_domain ix s ≡ true → has_domain more s ≡ true) → IsMetric ix row → IsMetric more row
-metric_stays ix more row wide m = record {
+metric_stays : (version : ℕ) (ix more : List IndomRow) (row : MetricRow) → ((s : ℕ) → has_domain ix s ≡ true → has_domain more s ≡ true) → IsMetric version ix row → IsMetric version more row
+metric_stays version ix more row wide m = record {
   name = m.name;
   stored = m.stored;
   item = m.item;
@@ -115,7 +115,7 @@ value_stays ix more metrics row wide v = record {
 pub domain_added : (draft : Layout) (row : IndomRow) → IsDraft draft → indom_fault draft row ≡ None → row.instances ≡ [] → IsHelp row.short × IsHelp row.long → IsDraft (with_domain draft row)
 unfolding with_domain
 domain_added draft row d h none helps =
-    let good : IsDomain row = record {
+    let good : IsDomain draft.version row = record {
       serial = (indom_rules draft row h).2;
       short = helps.0;
       long = helps.1;
@@ -126,9 +126,9 @@ domain_added draft row d h none helps =
       flags = d.flags;
       process = d.process;
       cluster = d.cluster;
-      domains = each_snoc IsDomain draft.indoms row d.domains good;
+      domains = each_snoc (IsDomain draft.version) draft.indoms row d.domains good;
       serials = apart_snoc is_same_serial draft.indoms row d.serials (indom_rules draft row h).1;
-      metrics = λ i m at. metric_stays draft.indoms (draft.indoms ++ row ∷ []) m (λ s. any_longer (λ r. nat_eq r.serial s) draft.indoms (row ∷ [])) (d.metrics i m at);
+      metrics = λ i m at. metric_stays draft.version draft.indoms (draft.indoms ++ row ∷ []) m (λ s. any_longer (λ r. nat_eq r.serial s) draft.indoms (row ∷ [])) (d.metrics i m at);
       items = d.items;
       values = λ i v at. value_stays draft.indoms (draft.indoms ++ row ∷ []) draft.metrics v (λ s id. any_longer _ draft.indoms (row ∷ [])) (d.values i v at);
       places = d.places;
@@ -144,8 +144,8 @@ at_most n h = grind (arith, nat_tests)
 pub metric_added : (draft : Layout) (row : MetricRow) → IsDraft draft → metric_fault draft row ≡ None → row.units < 2 ^ 32 → IsStored row.name → IsHelp row.short × IsHelp row.long → IsDraft (with_metric draft row)
 unfolding with_metric
 metric_added draft row d h units stored helps =
-    let rules : (is_metric_name row.name ≡ true) × (list_any (λ other. is_same_metric other row) draft.metrics ≡ false) × (lacks_domain draft.indoms row.serial ≡ None) × (nat_le row.item 1023 ≡ true) = metric_rules draft row h in
-    let good : IsMetric draft.indoms row = record {
+    let rules : (is_metric_name draft.version row.name ≡ true) × (list_any (λ other. is_same_metric other row) draft.metrics ≡ false) × (lacks_domain draft.indoms row.serial ≡ None) × (nat_le row.item 1023 ≡ true) = metric_rules draft row h in
+    let good : IsMetric draft.version draft.indoms row = record {
       name = rules.0;
       stored = stored;
       item = at_most row.item rules.3;
@@ -160,7 +160,7 @@ metric_added draft row d h units stored helps =
       cluster = d.cluster;
       domains = d.domains;
       serials = d.serials;
-      metrics = each_snoc (IsMetric draft.indoms) draft.metrics row d.metrics good;
+      metrics = each_snoc (IsMetric draft.version draft.indoms) draft.metrics row d.metrics good;
       items = apart_snoc is_same_metric draft.metrics row d.items rules.1;
       values = λ i v at. record {
         metric = any_longer (λ m. fits_metric draft.indoms v m) draft.metrics (row ∷ []) (d.values i v at).metric;
@@ -252,25 +252,25 @@ instances_stay (row ∷ rows) serial instance s id h = here (nat_eq row.serial s
         or_wider (nat_eq row.serial s && list_any (λ other. int_eq other.0 id) row.instances) (has_instance rows s id) (nat_eq row.serial s && list_any (λ other. int_eq other.0 id) row.instances) (has_instance (add_instance rows serial instance) s id)
         (λ e. e) rest h
 
-domain_grows : (row : IndomRow) (instance : ℤ × List ℕ) → IsDomain row → IsInstance instance → list_any (λ other. is_same_instance other instance) row.instances ≡ false → IsDomain (record row { instances = row.instances ++ instance ∷ [] })
-domain_grows row instance d is new = record {
+domain_grows : (version : ℕ) (row : IndomRow) (instance : ℤ × List ℕ) → IsDomain version row → IsInstance version instance → list_any (λ other. is_same_instance other instance) row.instances ≡ false → IsDomain version (record row { instances = row.instances ++ instance ∷ [] })
+domain_grows version row instance d is new = record {
   serial = d.serial;
   short = d.short;
   long = d.long;
-  instances = each_snoc IsInstance row.instances instance d.instances is;
+  instances = each_snoc (IsInstance version) row.instances instance d.instances is;
   apart = apart_snoc is_same_instance row.instances instance d.apart new;
 }
 
 one_then : (a b : Bool) → (a && b) ≡ false → a ≡ true → b ≡ false
 one_then a b h e = ap (λ x. x && b) (sym e) ∙ h
 
-grown_domains : (rows : List IndomRow) (serial : ℕ) (instance : ℤ × List ℕ) → Each IsDomain rows → IsInstance instance → has_same_instance rows serial instance ≡ false → Each IsDomain (add_instance rows serial instance)
+grown_domains : (version : ℕ) (rows : List IndomRow) (serial : ℕ) (instance : ℤ × List ℕ) → Each (IsDomain version) rows → IsInstance version instance → has_same_instance rows serial instance ≡ false → Each (IsDomain version) (add_instance rows serial instance)
 unfolding GrownFrom
-grown_domains rows serial instance all is new i grown at =
+grown_domains version rows serial instance all is new i grown at =
     let (row, was, how) = grown_row rows serial instance i grown at in
-    ⊎_elim (λ (same : grown ≡ row). subst IsDomain (sym same) (all i row was))
+    ⊎_elim (λ (same : grown ≡ row). subst (IsDomain version) (sym same) (all i row was))
     (λ (more : (row.serial ≡ serial) × (grown ≡ record row { instances = row.instances ++ instance ∷ [] })).
-    subst IsDomain (sym more.1) (domain_grows row instance (all i row was) is
+    subst (IsDomain version) (sym more.1) (domain_grows version row instance (all i row was) is
     (one_then (nat_eq row.serial serial) (list_any (λ other. is_same_instance other instance) row.instances) (any_at (λ r. nat_eq r.serial serial && list_any (λ other. is_same_instance other instance) r.instances) rows row i new was) (eq-eqb row.serial serial more.0)))) how
 
 serial_of_grown : (grown row : IndomRow) (serial : ℕ) (instance : ℤ × List ℕ) → ((grown ≡ row) ⊎ ((row.serial ≡ serial) × (grown ≡ record row { instances = row.instances ++ instance ∷ [] }))) → grown.serial ≡ row.serial
@@ -290,16 +290,16 @@ number_is (negsuc n) h fits = cc
 pub instance_added : (draft : Layout) (serial : ℕ) (id : ℤ) (name : List ℕ) → IsDraft draft → instance_fault draft serial id name ≡ None → FitsSigned w32 id → IsStored name → IsDraft (with_instance draft serial id name)
 unfolding with_instance
 instance_added draft serial id name d h fits stored =
-    let rules : (is_instance_name name ≡ true) × (has_same_instance draft.indoms serial (id, name) ≡ false) × (has_domain draft.indoms serial ≡ true) × (is_negative id ≡ false) = instance_rules draft serial id name h in
-    let is : IsInstance (id, name) = record { number = number_is id rules.3 fits; name = rules.0; stored = stored } in
+    let rules : (is_instance_name draft.version name ≡ true) × (has_same_instance draft.indoms serial (id, name) ≡ false) × (has_domain draft.indoms serial ≡ true) × (is_negative id ≡ false) = instance_rules draft serial id name h in
+    let is : IsInstance draft.version (id, name) = record { number = number_is id rules.3 fits; name = rules.0; stored = stored } in
     record {
       version = d.version;
       flags = d.flags;
       process = d.process;
       cluster = d.cluster;
-      domains = grown_domains draft.indoms serial (id, name) d.domains is rules.1;
+      domains = grown_domains draft.version draft.indoms serial (id, name) d.domains is rules.1;
       serials = grown_serials draft.indoms serial (id, name) d.serials;
-      metrics = λ i m at. metric_stays draft.indoms (add_instance draft.indoms serial (id, name)) m (λ s there. serials_stay draft.indoms serial (id, name) s ∙ there) (d.metrics i m at);
+      metrics = λ i m at. metric_stays draft.version draft.indoms (add_instance draft.indoms serial (id, name)) m (λ s there. serials_stay draft.indoms serial (id, name) s ∙ there) (d.metrics i m at);
       items = d.items;
       values = λ i v at. value_stays draft.indoms (add_instance draft.indoms serial (id, name)) draft.metrics v (instances_stay draft.indoms serial (id, name)) (d.values i v at);
       places = d.places;

@@ -7,15 +7,16 @@ use Rattle.std.proofs.lemmas.Int.{to_z-of_z, of_z-to_z}
 use Rattle.std.proofs.lemmas.Bool.{eq-eqb}
 use Rattle.std.proofs.lemmas.Bool.Decides.{nat_tests, Decides-int_eq}
 use Rattle.pcp_base.specs.Codes.{code_of_kind, kind_of_code}
+use Rattle.pcp_base.specs.Names.{spells}
 use Rattle.pcp_base.specs.declared.kind.Kind.TheVariants.{I32}
 use Rattle.mmv_layout.specs.declared.rows.ValueRow.{ValueRow}
 use Rattle.mmv_layout.specs.declared.rows.Content.TheVariants.{Number, Choice, Raw}
 use Rattle.mmv_layout.specs.Fields.{number32, number64, byte_at, text_at, has_zero}
-use Rattle.mmv_layout.specs.Sizes.{name_width, indom_size, instance_size, string_size}
-use Rattle.mmv_layout.specs.EntryFields.{same_name, serial_in_indom, count_in_indom, first_in_indom, short_offset_in_indom, long_offset_in_indom, domain_in_instance, number_offset_in_instance, number_in_instance, name_offset_in_instance, name_in_instance, name_in_metric, item_in_metric, type_in_metric, serial_in_metric, short_offset_in_metric, long_offset_in_metric, value_in_value, extra_in_value, instance_in_value}
-use Rattle.mmv_layout.specs.Contents.{section_of}
-use Rattle.mmv_layout.specs.Entries.{leads_to_string, indom_count, indom_at, instance_count, instance_at, metric_count, metric_at, value_count, value_at, string_count, string_at, help_leads, is_instance_of, has_good_run, has_serial, is_good_indom, has_text, lies_in_run, is_same_instance, is_new_instance, is_instance_number, is_good_instance, has_name, is_kind, is_no_domain, is_indom_serial, serial_leads, is_same_metric, has_good_fields, is_good_metric, metric_of, instance_leads, choice_leads, is_good_value, is_good_string}
-use Rattle.mmv_layout.specs.Images.{has_good_header, is_image}
+use Rattle.mmv_layout.specs.Sizes.{has_inline_names, name_room, indom_size, instance_size, string_size}
+use Rattle.mmv_layout.specs.EntryFields.{name_start, name_text, same_name, serial_in_indom, count_in_indom, first_in_indom, short_offset_in_indom, long_offset_in_indom, domain_in_instance, number_offset_in_instance, number_in_instance, name_offset_in_instance, name_in_instance, name_in_metric, item_in_metric, type_in_metric, serial_in_metric, short_offset_in_metric, long_offset_in_metric, value_in_value, extra_in_value, instance_in_value}
+use Rattle.mmv_layout.specs.Contents.{version_in, section_of}
+use Rattle.mmv_layout.specs.Entries.{leads_to_string, indom_count, indom_at, instance_count, instance_at, metric_count, metric_at, value_count, value_at, string_count, string_at, help_leads, name_leads, name_ends, is_passed_over, is_instance_of, has_good_run, has_serial, is_good_indom, has_text, lies_in_run, is_same_instance, is_new_instance, is_instance_number, is_good_instance, has_name, is_kind, is_no_domain, is_indom_serial, serial_leads, is_same_metric, has_good_fields, is_good_metric, metric_of, instance_leads, choice_leads, is_good_value, is_good_string}
+use Rattle.mmv_layout.specs.Images.{has_good_header, is_image, IsImage}
 use Rattle.mmv_layout.proofs.Below.{all_at, both_left, both_right}
 use Rattle.mmv_layout.proofs.Images.{cluster_fits}
 use Rattle.mmv_layout.proofs.Texts.{text_clean, text_short}
@@ -30,6 +31,8 @@ use Rattle.mmv_writer.specs.Rules as rules
 use Rattle.mmv_writer.specs.Draft.{Each, Apart, IsStored, IsString, IsHelp, IsInstance, IsDomain, HasDomain, IsMetric, IsContent, IsValue, is_same_serial, IsDraft}
 use Rattle.mmv_writer.specs.Laws.{LayoutsAreDrafts}
 use Rattle.mmv_writer.proofs.Rows.{get_snoc}
+use Rattle.mmv_writer.proofs.Wanted.{bytes_same, Has, HasHelp, HasContent, HasTexts}
+use Rattle.mmv_writer.proofs.Lengths.{instances_in_order}
 
 -- Lists of rows
 
@@ -104,15 +107,24 @@ stored : (words : List ℕ) (at n : ℕ) → IsStored (text_at words at n)
 stored words at n = record { nonzero = text_clean words at n; bytes = λ j. text_bytes words at n j }
 
 -- a name field that begins with a byte has some
-text_some : (words : List ℕ) (at n : ℕ) → nat_eq (byte_at words at) 0 ≡ false → 1 ≤ length (text_at words at (suc n))
+text_some : (words : List ℕ) (at n : ℕ) → 0 < n → nat_eq (byte_at words at) 0 ≡ false → 1 ≤ length (text_at words at n)
 unfolding text_at
-text_some words at n h = subst (λ t. 1 ≤ length (cond t [] (byte_at words at ∷ text_at words (at + 1) n))) (sym h) (omega arith)
+text_some words at zero some h = absurd (omega arith)
+text_some words at (suc n) some h = subst (λ t. 1 ≤ length (cond t [] (byte_at words at ∷ text_at words (at + 1) n))) (sym h) (omega arith)
 
 le_is : (a b : ℕ) → a ≤ b → nat_le a b ≡ true
 le_is a b h = grind (arith, nat_tests)
 
-at_most_63 : (n : ℕ) → n < name_width → n ≤ 63
-at_most_63 n h = omega arith
+lt_is : (a b : ℕ) → a < b → nat_lt a b ≡ true
+lt_is a b h = grind (arith, nat_tests)
+
+room_some : (version : ℕ) → 0 < name_room version
+unfolding name_room
+room_some version = here (has_inline_names version)
+  where
+    here : (inline : Bool) → 0 < cond inline 64 256
+    here true = omega arith
+    here false = omega arith
 
 not_long : (n : ℕ) → n < 256 → nat_lt 255 n ≡ false
 not_long n h = grind (arith, nat_tests)
@@ -143,16 +155,45 @@ module _ (words : List ℕ) (h : is_image words ≡ true) where
       here true e = tt
       here false e = string_is (number64 words field) (or_right _ _ leads e)
 
+  string_ends : (offset : ℕ) → leads_to_string words offset ≡ true → has_zero words offset string_size ≡ true
+  unfolding is_good_string
+  string_ends offset leads =
+      let (k, below, stands) = leads_there (section_of words 5).offset (section_of words 5).count string_size offset leads in
+      subst (λ p. has_zero words p string_size ≡ true) (sym stands) (good_string words k h below)
+
+  -- Names
+
+  -- the strings of an image end, and so no name that leads is passed over
+  looked_at : (field : ℕ) → name_leads words field ≡ true → is_passed_over words field ≡ false
+  unfolding is_passed_over name_leads name_ends name_start name_room
+  looked_at field leads = here (has_inline_names (version_in words)) leads
+    where
+      here : (b : Bool) → (b || leads_to_string words (number64 words field)) ≡ true
+          → (not b && not ((b || leads_to_string words (number64 words field)) && has_zero words (cond b field (number64 words field)) (cond b 64 256))) ≡ false
+      here true l = refl
+      here false l = ap₂ (λ a b. not (a && b)) l (string_ends (number64 words field) l)
+
+  name_stored : (field : ℕ) → IsStored (name_text words field)
+  unfolding name_text
+  name_stored field = stored words (name_start words field) (name_room (version_in words))
+
+  name_short : (field : ℕ) → name_ends words field ≡ true → rules.is_short_name (version_in words) (name_text words field) ≡ true
+  unfolding name_ends name_text
+  name_short field ends = lt_is (length (name_text words field)) (name_room (version_in words)) (text_short words (name_start words field) (name_room (version_in words)) ends)
+
+  name_some : (field : ℕ) → nat_eq (byte_at words (name_start words field)) 0 ≡ false → nat_le 1 (length (name_text words field)) ≡ true
+  unfolding name_text
+  name_some field some = le_is 1 (length (name_text words field)) (text_some words (name_start words field) (name_room (version_in words)) (room_some (version_in words)) some)
+
   -- Instances
 
-  named : (m : ℕ) → m < instance_count words → rules.is_instance_name (name_in_instance words (instance_at words m)) ≡ true
+  named : (m : ℕ) → m < instance_count words → rules.is_instance_name (version_in words) (name_in_instance words (instance_at words m)) ≡ true
   unfolding is_good_instance has_text
   named m below =
-      let text : (has_zero words (name_offset_in_instance (instance_at words m)) name_width && not (nat_eq (byte_at words (name_offset_in_instance (instance_at words m))) 0)) ≡ true =
-      both_left _ _ (both_left _ _ (both_left _ _ (good_instance words m h below))) in
-      let short : length (name_in_instance words (instance_at words m)) < name_width = text_short words (name_offset_in_instance (instance_at words m)) name_width (both_left _ _ text) in
-      let some : 1 ≤ length (name_in_instance words (instance_at words m)) = text_some words (name_offset_in_instance (instance_at words m)) 63 (not_true _ (both_right _ _ text)) in
-      ap₂ (λ a b. a && b) (le_is 1 (length (name_in_instance words (instance_at words m))) some) (le_is (length (name_in_instance words (instance_at words m))) 63 (at_most_63 (length (name_in_instance words (instance_at words m))) short))
+      let name = both_left _ _ (both_left _ _ (both_left _ _ (good_instance words m h below))) in
+      let text : (name_ends words (name_offset_in_instance (instance_at words m)) && not (nat_eq (byte_at words (name_start words (name_offset_in_instance (instance_at words m)))) 0)) ≡ true =
+      or_right _ _ (both_left _ _ name) (looked_at (name_offset_in_instance (instance_at words m)) (both_right _ _ name)) in
+      ap₂ (λ a b. a && b) (name_some (name_offset_in_instance (instance_at words m)) (not_true _ (both_right _ _ text))) (name_short (name_offset_in_instance (instance_at words m)) (both_left _ _ text))
 
   number_small : (m : ℕ) → m < instance_count words → number_in_instance words (instance_at words m) < 2147483648
   unfolding is_good_instance
@@ -161,34 +202,34 @@ module _ (words : List ℕ) (h : is_image words ≡ true) where
       small : (n : ℕ) → is_instance_number n ≡ true → n < 2147483648
       small n e = grind (arith, nat_tests)
 
-  instance_is : (m : ℕ) → m < instance_count words → IsInstance (instance_row words (instance_at words m))
+  instance_is : (m : ℕ) → m < instance_count words → IsInstance (version_in words) (instance_row words (instance_at words m))
   unfolding instance_row
   instance_is m below = record {
     number = (number_in_instance words (instance_at words m), to_z-of_z w32 (pos (number_in_instance words (instance_at words m))) (record { sfits = number_small m below }), number_small m below);
     name = named m below;
-    stored = stored words (name_offset_in_instance (instance_at words m)) name_width;
+    stored = name_stored (name_offset_in_instance (instance_at words m));
   }
 
   -- an instance of a domain's run
-  member : (i k : ℕ) → i < indom_count words → k < count_in_indom words (indom_at words i) → is_instance_of words (indom_at words i) (first_in_indom words (indom_at words i) + instance_size * k) ≡ true
+  member : (i k : ℕ) → i < indom_count words → k < count_in_indom words (indom_at words i) → is_instance_of words (indom_at words i) (first_in_indom words (indom_at words i) + instance_size (version_in words) * k) ≡ true
   unfolding is_good_indom has_good_run
   member i k below within =
-      all_at (count_in_indom words (indom_at words i)) k (λ k. is_instance_of words (indom_at words i) (first_in_indom words (indom_at words i) + instance_size * k))
+      all_at (count_in_indom words (indom_at words i)) k (λ k. is_instance_of words (indom_at words i) (first_in_indom words (indom_at words i) + instance_size (version_in words) * k))
       (both_right _ _ (both_left _ _ (both_left _ _ (good_indom words i h below)))) within
 
-  member_at : (i k : ℕ) → i < indom_count words → k < count_in_indom words (indom_at words i) → LeadsTo (instance_count words) (instance_at words) (first_in_indom words (indom_at words i) + instance_size * k)
+  member_at : (i k : ℕ) → i < indom_count words → k < count_in_indom words (indom_at words i) → LeadsTo (instance_count words) (instance_at words) (first_in_indom words (indom_at words i) + instance_size (version_in words) * k)
   unfolding is_instance_of
-  member_at i k below within = leads_there (section_of words 2).offset (section_of words 2).count instance_size (first_in_indom words (indom_at words i) + instance_size * k) (both_left _ _ (member i k below within))
+  member_at i k below within = leads_there (section_of words 2).offset (section_of words 2).count (instance_size (version_in words)) (first_in_indom words (indom_at words i) + instance_size (version_in words) * k) (both_left _ _ (member i k below within))
 
-  owner : (i k : ℕ) → i < indom_count words → k < count_in_indom words (indom_at words i) → domain_in_instance words (first_in_indom words (indom_at words i) + instance_size * k) ≡ indom_at words i
+  owner : (i k : ℕ) → i < indom_count words → k < count_in_indom words (indom_at words i) → domain_in_instance words (first_in_indom words (indom_at words i) + instance_size (version_in words) * k) ≡ indom_at words i
   unfolding is_instance_of
-  owner i k below within = eq_of (domain_in_instance words (first_in_indom words (indom_at words i) + instance_size * k)) (indom_at words i) (both_right _ _ (member i k below within))
+  owner i k below within = eq_of (domain_in_instance words (first_in_indom words (indom_at words i) + instance_size (version_in words) * k)) (indom_at words i) (both_right _ _ (member i k below within))
 
-  instances_are : (i : ℕ) → i < indom_count words → Each IsInstance (instances_of words (indom_at words i))
+  instances_are : (i : ℕ) → i < indom_count words → Each (IsInstance (version_in words)) (instances_of words (indom_at words i))
   unfolding instances_of
   instances_are i below =
-      each_below IsInstance (count_in_indom words (indom_at words i)) (λ k. instance_row words (first_in_indom words (indom_at words i) + instance_size * k))
-      (λ k within. let (m, m_below, stands) = member_at i k below within in subst (λ p. IsInstance (instance_row words p)) (sym stands) (instance_is m m_below))
+      each_below (IsInstance (version_in words)) (count_in_indom words (indom_at words i)) (λ k. instance_row words (first_in_indom words (indom_at words i) + instance_size (version_in words) * k))
+      (λ k within. let (m, m_below, stands) = member_at i k below within in subst (λ p. IsInstance (version_in words) (instance_row words p)) (sym stands) (instance_is m m_below))
 
   number_same : (x y : ℕ) → cast_signed w32 (number32 words x) ≡ cast_signed w32 (number32 words y) → number32 words x ≡ number32 words y
   number_same x y e = sym (of_z-to_z w32 (number32 words x) (small32 words x)) ∙ ap (cast_unsigned w32) e ∙ of_z-to_z w32 (number32 words y) (small32 words y)
@@ -223,17 +264,14 @@ module _ (words : List ℕ) (h : is_image words ≡ true) where
   instances_apart : (i : ℕ) → i < indom_count words → Apart rules.is_same_instance (instances_of words (indom_at words i))
   unfolding instances_of
   instances_apart i below =
-      apart_below rules.is_same_instance (count_in_indom words (indom_at words i)) (λ k. instance_row words (first_in_indom words (indom_at words i) + instance_size * k))
+      apart_below rules.is_same_instance (count_in_indom words (indom_at words i)) (λ k. instance_row words (first_in_indom words (indom_at words i) + instance_size (version_in words) * k))
       (λ k l within less.
       let (m, m_below, m_is) = member_at i k below (omega arith) in
       let (n, n_below, n_is) = member_at i l below within in
-      differ (first_in_indom words (indom_at words i) + instance_size * k) (first_in_indom words (indom_at words i) + instance_size * l) (owner i k below (omega arith) ∙ sym (owner i l below within))
-      (ap₂ (is_same_instance words) m_is n_is ∙ instance_new m n n_below (in_order (section_of words 2).offset (first_in_indom words (indom_at words i)) k l m n less m_is n_is)))
-    where
-      in_order : (start first k l m n : ℕ) → k < l → first + instance_size * k ≡ start + instance_size * m → first + instance_size * l ≡ start + instance_size * n → m < n
-      in_order start first k l m n less e f = omega arith
+      differ (first_in_indom words (indom_at words i) + instance_size (version_in words) * k) (first_in_indom words (indom_at words i) + instance_size (version_in words) * l) (owner i k below (omega arith) ∙ sym (owner i l below within))
+      (ap₂ (is_same_instance words) m_is n_is ∙ instance_new m n n_below (instances_in_order (version_in words) (section_of words 2).offset (first_in_indom words (indom_at words i)) k l m n less m_is n_is)))
 
-  domain_is : (i : ℕ) → i < indom_count words → IsDomain (indom_row words (indom_at words i))
+  domain_is : (i : ℕ) → i < indom_count words → IsDomain (version_in words) (indom_row words (indom_at words i))
   unfolding indom_row is_good_indom
   domain_is i below =
       let good = good_indom words i h below in record {
@@ -264,28 +302,28 @@ module _ (words : List ℕ) (h : is_image words ≡ true) where
       here true e = tt
       here false e = has_indom serial (or_right _ _ leads e)
 
-  metric_named : (i : ℕ) → i < metric_count words → rules.is_metric_name (name_in_metric words (metric_at words i)) ≡ true
+  metric_named : (i : ℕ) → i < metric_count words → rules.is_metric_name (version_in words) (name_in_metric words (metric_at words i)) ≡ true
   unfolding is_good_metric has_name
   metric_named i below =
       let name = both_left _ _ (both_left _ _ (good_metric words i h below)) in
-      let short : length (name_in_metric words (metric_at words i)) < name_width = text_short words (metric_at words i) name_width (both_left _ _ name) in
-      ap₂ (λ a b. a && b) (both_right _ _ name) (le_is (length (name_in_metric words (metric_at words i))) 63 (at_most_63 (length (name_in_metric words (metric_at words i))) short))
+      let text : (name_ends words (metric_at words i) && spells true (name_text words (metric_at words i))) ≡ true = or_right _ _ (both_left _ _ name) (looked_at (metric_at words i) (both_right _ _ name)) in
+      ap₂ (λ a b. a && b) (both_right _ _ text) (name_short (metric_at words i) (both_left _ _ text))
 
   fields : (i : ℕ) → i < metric_count words → has_good_fields words (metric_at words i) ≡ true
   unfolding is_good_metric
   fields i below = both_right _ _ (both_left _ _ (good_metric words i h below))
 
-  metric_is : (i : ℕ) → i < metric_count words → IsMetric (indoms_of words) (metric_row words (metric_at words i))
+  metric_is : (i : ℕ) → i < metric_count words → IsMetric (version_in words) (indoms_of words) (metric_row words (metric_at words i))
   unfolding metric_row has_good_fields
   metric_is i below =
       let good = fields i below in record {
         name = metric_named i below;
-        stored = stored words (metric_at words i) name_width;
+        stored = name_stored (metric_at words i);
         item = le_of (item_in_metric words (metric_at words i)) 1023 (both_right _ _ good);
         units = small32 words _;
         domain = domain_there (serial_in_metric words (metric_at words i)) (both_right _ _ (both_left _ _ (both_left _ _ (both_left _ _ good))));
-        short = help_is (short_offset_in_metric (metric_at words i)) (both_right _ _ (both_left _ _ (both_left _ _ good)));
-        long = help_is (long_offset_in_metric (metric_at words i)) (both_right _ _ (both_left _ _ good));
+        short = help_is (short_offset_in_metric words (metric_at words i)) (both_right _ _ (both_left _ _ (both_left _ _ good)));
+        long = help_is (long_offset_in_metric words (metric_at words i)) (both_right _ _ (both_left _ _ good));
       }
 
   items_apart : (i j : ℕ) → j < metric_count words → i < j → rules.is_same_metric (metric_row words (metric_at words i)) (metric_row words (metric_at words j)) ≡ false
@@ -322,17 +360,17 @@ module _ (words : List ℕ) (h : is_image words ≡ true) where
       let p : ℕ = instance_in_value words (value_at words i) in
       let s : ℕ = domain_of words (value_at words i) in
       let tests = taken (is_no_domain (domain_of words (value_at words i))) _ _ (value_leads i below) some in
-      let (m, m_below, p_is) = leads_there (section_of words 2).offset (section_of words 2).count instance_size p (both_left _ _ tests) in
+      let (m, m_below, p_is) = leads_there (section_of words 2).offset (section_of words 2).count (instance_size (version_in words)) p (both_left _ _ tests) in
       let (d, d_below, d_is) = leads_there (section_of words 1).offset (section_of words 1).count indom_size (domain_in_instance words p) (both_left _ _ (both_right _ _ tests)) in
       let serial : serial_in_indom words (domain_in_instance words p) ≡ s = eq_of (serial_in_indom words (domain_in_instance words p)) s (both_right _ _ (both_right _ _ tests)) in
       let lies = both_right _ _ (both_right _ _ (both_left _ _ (both_left _ _ (good_instance words m h m_below)))) in
       let (k, within, stands) =
-      leads_there (first_in_indom words (domain_in_instance words (instance_at words m))) (count_in_indom words (domain_in_instance words (instance_at words m))) instance_size (instance_at words m) lies in
+      leads_there (first_in_indom words (domain_in_instance words (instance_at words m))) (count_in_indom words (domain_in_instance words (instance_at words m))) (instance_size (version_in words)) (instance_at words m) lies in
       let one : domain_in_instance words (instance_at words m) ≡ indom_at words d = ap (domain_in_instance words) (sym p_is) ∙ d_is in
-      let there : first_in_indom words (indom_at words d) + instance_size * k ≡ p = sym (subst (λ q. instance_at words m ≡ first_in_indom words q + instance_size * k) one stands) ∙ sym p_is in
+      let there : first_in_indom words (indom_at words d) + instance_size (version_in words) * k ≡ p = sym (subst (λ q. instance_at words m ≡ first_in_indom words q + instance_size (version_in words) * k) one stands) ∙ sym p_is in
       any_below (λ row. nat_eq row.serial s && list_any (λ other. int_eq other.0 (number_of words p)) row.instances) (indom_count words) d (λ i. indom_row words (indom_at words i)) d_below
       (ap₂ (λ a b. a && b) (eq-eqb (serial_in_indom words (indom_at words d)) s (ap (serial_in_indom words) (sym d_is) ∙ serial))
-      (any_below (λ other. int_eq other.0 (number_of words p)) (count_in_indom words (indom_at words d)) k (λ k. instance_row words (first_in_indom words (indom_at words d) + instance_size * k))
+      (any_below (λ other. int_eq other.0 (number_of words p)) (count_in_indom words (indom_at words d)) k (λ k. instance_row words (first_in_indom words (indom_at words d) + instance_size (version_in words) * k))
       (subst (λ q. k < count_in_indom words q) one within) (ap (λ q. int_eq (number_of words q) (number_of words p)) there ∙ int_self (number_of words p))))
 
   instance_fits : (i : ℕ) → i < value_count words → fits_instance (indoms_of words) (serial_of (domain_of words (value_at words i))) (instance_of words (value_at words i)) ≡ true
@@ -417,6 +455,63 @@ module _ (words : List ℕ) (h : is_image words ≡ true) where
     short = not_long (length (string_text words (string_at words k))) (text_short words (string_at words k) string_size (good_string words k h below));
   }
 
+  -- What references lead to is among the strings
+
+  string_among : (offset : ℕ) → leads_to_string words offset ≡ true → Has (strings_of words) (string_text words offset)
+  unfolding strings_of
+  string_among offset leads =
+      let (k, below, stands) = leads_there (section_of words 5).offset (section_of words 5).count string_size offset leads in
+      any_below (λ other. bytes_eq other (string_text words offset)) (string_count words) k (λ i. string_text words (string_at words i)) below
+      (ap (λ p. bytes_eq (string_text words p) (string_text words offset)) (sym stands) ∙ bytes_same (string_text words offset))
+
+  help_among : (field : ℕ) → help_leads words field ≡ true → HasHelp (strings_of words) (help_of words field)
+  unfolding help_leads help_of
+  help_among field leads = here (nat_eq (number64 words field) 0) refl
+    where
+      here : (t : Bool) → nat_eq (number64 words field) 0 ≡ t → HasHelp (strings_of words) (cond t None (Some (string_text words (number64 words field))))
+      here true e = tt
+      here false e = string_among (number64 words field) (or_right _ _ leads e)
+
+  domain_among : (i : ℕ) → i < indom_count words → HasHelp (strings_of words) (indom_row words (indom_at words i)).short × HasHelp (strings_of words) (indom_row words (indom_at words i)).long
+  unfolding indom_row is_good_indom
+  domain_among i below =
+      let good = good_indom words i h below in (
+        help_among (short_offset_in_indom (indom_at words i)) (both_left _ _ (both_left _ _ (both_left _ _ (both_left _ _ good)))),
+        help_among (long_offset_in_indom (indom_at words i)) (both_right _ _ (both_left _ _ (both_left _ _ (both_left _ _ good)))),
+      )
+
+  metric_among : (i : ℕ) → i < metric_count words → HasHelp (strings_of words) (metric_row words (metric_at words i)).short × HasHelp (strings_of words) (metric_row words (metric_at words i)).long
+  unfolding metric_row has_good_fields
+  metric_among i below =
+      let good = fields i below in (
+        help_among (short_offset_in_metric words (metric_at words i)) (both_right _ _ (both_left _ _ (both_left _ _ good))),
+        help_among (long_offset_in_metric words (metric_at words i)) (both_right _ _ (both_left _ _ good)),
+      )
+
+  content_among : (i : ℕ) → i < value_count words → HasContent (strings_of words) (content_of words (value_at words i))
+  unfolding content_of choice_leads
+  content_among i below = here (nat_le (type_of words (value_at words i)) 3) (nat_eq (type_of words (value_at words i)) 6) refl
+    where
+      or_of : (a b : Bool) → a ≡ true → (not a || b) ≡ true → b ≡ true
+      or_of true b e f = f
+      or_of false b e f = cc
+
+      here : (a b : Bool) → nat_eq (type_of words (value_at words i)) 6 ≡ b
+          → HasContent (strings_of words) (cond a (Number (value_in_value words (value_at words i))) (cond b (Choice (string_text words (extra_in_value words (value_at words i)))) (Raw (value_in_value words (value_at words i)) (extra_in_value words (value_at words i)))))
+      here true b f = tt
+      here false true f = string_among (extra_in_value words (value_at words i)) (or_of _ _ f (value_chosen i below))
+      here false false f = tt
+
+  texts_are_among : HasTexts (layout_of words)
+  unfolding layout_of indoms_of metrics_of values_of value_row
+  texts_are_among = record {
+    domains = each_below (λ row. HasHelp (strings_of words) row.short × HasHelp (strings_of words) row.long) (indom_count words) (λ i. indom_row words (indom_at words i)) domain_among;
+    metrics = each_below (λ row. HasHelp (strings_of words) row.short × HasHelp (strings_of words) row.long) (metric_count words) (λ i. metric_row words (metric_at words i)) metric_among;
+    values = each_below (λ row. HasContent (strings_of words) row.content) (value_count words) (λ i. value_row words (value_at words i)) content_among;
+  }
+
+  -- The whole
+
   draft_is : IsDraft (layout_of words)
   unfolding layout_of indoms_of metrics_of values_of strings_of has_good_header
   draft_is = record {
@@ -424,9 +519,9 @@ module _ (words : List ℕ) (h : is_image words ≡ true) where
     flags = small32 words _;
     process = small32 words _;
     cluster = cluster_fits words h;
-    domains = each_below IsDomain (indom_count words) (λ i. indom_row words (indom_at words i)) domain_is;
+    domains = each_below (IsDomain (version_in words)) (indom_count words) (λ i. indom_row words (indom_at words i)) domain_is;
     serials = apart_below is_same_serial (indom_count words) (λ i. indom_row words (indom_at words i)) serials_apart;
-    metrics = each_below (IsMetric (indoms_of words)) (metric_count words) (λ i. metric_row words (metric_at words i)) metric_is;
+    metrics = each_below (IsMetric (version_in words) (indoms_of words)) (metric_count words) (λ i. metric_row words (metric_at words i)) metric_is;
     items = apart_below rules.is_same_metric (metric_count words) (λ i. metric_row words (metric_at words i)) items_apart;
     values = each_below (IsValue (indoms_of words) (metrics_of words)) (value_count words) (λ i. value_row words (value_at words i)) value_is;
     places = apart_below is_same_value (value_count words) (λ i. value_row words (value_at words i)) places_apart;
@@ -435,3 +530,6 @@ module _ (words : List ℕ) (h : is_image words ≡ true) where
 
 pub layouts_are_drafts : LayoutsAreDrafts
 layouts_are_drafts words h = draft_is words h
+
+pub layouts_have_texts : (words : List ℕ) → IsImage words → HasTexts (layout_of words)
+layouts_have_texts words h = texts_are_among words h

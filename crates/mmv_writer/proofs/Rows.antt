@@ -1,7 +1,8 @@
 -- Lists of rows: what a row more changes.
-use Rattle.std.proofs.Common.{◌≡◌, ℕ, zero, suc, ◌<◌, Bool, true, false, ◌&&◌, ◌||◌, ◌⊎◌, inl, inr, List, [], ◌∷◌, ◌++◌, length, ap, sym, subst, ◌∙◌, refl, arith, ⊎_elim, nat_lt, nat_le, Some}
+use Rattle.std.proofs.Common.{◌≡◌, ℕ, zero, suc, ◌<◌, Bool, true, false, ◌&&◌, ◌||◌, ◌⊎◌, inl, inr, List, [], ◌∷◌, ◌++◌, length, ap, sym, subst, ◌∙◌, refl, arith, ⊎_elim, cond, nat_lt, Some}
 use Rattle.std.specs.List.{list_any, slice_get}
 use Rattle.std.proofs.lemmas.Bool.Decides.{nat_tests}
+use Rattle.mmv_layout.specs.Sizes.{has_inline_names, name_room}
 use Rattle.mmv_writer.specs.Draft.{Each, Apart}
 
 pub either_left : (a b : Bool) → (a || b) ≡ false → a ≡ false
@@ -64,6 +65,11 @@ any_wider test wide (x ∷ xs) w h = here (test x) (wide x) (w x) (any_wider tes
     here false false one rest h = rest h
 
 -- what is too long for a string is too long for a name
-pub too_long : (b : Bool) (n : ℕ) → nat_lt 255 n ≡ true → false ≡ (b && nat_le n 63)
-too_long true n h = grind (arith, nat_tests)
-too_long false n h = refl
+pub too_long : (b : Bool) (version n : ℕ) → nat_lt 255 n ≡ true → false ≡ (b && nat_lt n (name_room version))
+unfolding name_room
+too_long false version n h = refl
+too_long true version n h = here (has_inline_names version)
+  where
+    here : (inline : Bool) → false ≡ nat_lt n (cond inline 64 256)
+    here true = grind (arith, nat_tests)
+    here false = grind (arith, nat_tests)

@@ -71,7 +71,7 @@ metric_short true false c lacks e h = refl
 metric_helps : (draft : Layout) (row : MetricRow) → metric_fault draft row ≡ None → (is_long_help row.short || is_long_help row.long) ≡ false
 unfolding metric_fault
 metric_helps draft row h =
-    metric_short (is_metric_name row.name) (is_long_help row.short || is_long_help row.long) (list_any (λ other. is_same_metric other row) draft.metrics) (lacks_domain draft.indoms row.serial) (nat_le row.item 1023) h
+    metric_short (is_metric_name draft.version row.name) (is_long_help row.short || is_long_help row.long) (list_any (λ other. is_same_metric other row) draft.metrics) (lacks_domain draft.indoms row.serial) (nat_le row.item 1023) h
 
 number_there : (here : Bool) (n : ℕ) (text : List ℕ) → cond here (Some (contents.Number n)) None ≡ Some (contents.Choice text) → ⊥
 number_there true n text h = cc

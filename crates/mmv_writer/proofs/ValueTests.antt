@@ -21,16 +21,17 @@ use Rattle.mmv_writer.specs.Draft.{Each, IsDraft}
 use Rattle.mmv_writer.specs.Offsets.{instances_in, counts_of, words_in}
 use Rattle.mmv_writer.specs.Spelling.{domain_of, instance_offset, serial_word, value_words, extra_field, serial_in, serial_of, members_in, member_of, instance_field, image_with_strings}
 use Rattle.mmv_writer.proofs.Rows.{either_left}
+use Rattle.mmv_writer.proofs.Lengths.{instances_same, metrics_same}
 use Rattle.mmv_writer.proofs.Sections.{all_hold}
 use Rattle.mmv_writer.proofs.Standing.{word_read}
 use Rattle.mmv_writer.proofs.Wanted.{HasContent}
 use Rattle.mmv_writer.proofs.Positions.{Passes, first_passes, position_is, find_at, get_below, get_some, same_row, before_this}
-use Rattle.mmv_writer.proofs.Spelt.{values_from, offsets, find_values}
-use Rattle.mmv_writer.proofs.Marks.{value_is, indom_leads, instance_leads_to, metric_leads, string_leads, stand_value, serial_fits, serial_read, owner_read}
+use Rattle.mmv_writer.proofs.Spelt.{Fits, metrics_from, values_from, offsets, find_values}
+use Rattle.mmv_writer.proofs.Marks.{instance_stands, metric_stands, value_is, indom_leads, instance_leads_to, metric_leads, string_leads, stand_value, serial_fits, serial_read, owner_read}
 use Rattle.mmv_writer.proofs.MetricTests.{kind_read, metric_serial_read}
 use Rattle.mmv_layout.specs.Sizes.{indom_size, instance_size, metric_size}
 use Rattle.mmv_layout.specs.EntryFields.{type_offset_in_metric, serial_offset_in_metric, extra_offset_in_value, metric_offset_in_value, instance_offset_in_value}
-use Rattle.mmv_writer.specs.Offsets.{value_length}
+use Rattle.mmv_writer.specs.Offsets.{metric_length, value_length}
 
 -- where keys differ, the first row with a key is the one that some row with it is
 pub only_one : {T : Type 0} (key : T → ℕ) (rest : T → Bool) (n : ℕ) (xs : List T) → ((i j : ℕ) (a b : T) → i < j → slice_get xs i ≡ Some a → slice_get xs j ≡ Some b → nat_eq (key a) (key b) ≡ false) → list_any (λ x. nat_eq (key x) n && rest x) xs ≡ true → Passes xs (position_or_len (λ x. nat_eq (key x) n) xs) (λ x. nat_eq (key x) n && rest x)
@@ -80,13 +81,13 @@ one_at_least n h = least n (both_left (nat_le 1 n) (nat_le n 1023) h)
     least : (n : ℕ) → nat_le 1 n ≡ true → 0 < n
     least n h = grind (arith, nat_tests)
 
-instance_good : (draft : Layout) (s : List (List ℕ)) → words_in (counts_of draft s) ≤ 65536 → IsDraft draft → (serial : Option ℕ) (number : Option ℤ) (field shown : ℕ) → fits_instance draft.indoms serial number ≡ true → field ≡ instance_field (offsets draft s) draft.indoms serial number → shown ≡ serial_word serial
+instance_good : (draft : Layout) (s : List (List ℕ)) → Fits draft s → IsDraft draft → (serial : Option ℕ) (number : Option ℤ) (field shown : ℕ) → fits_instance draft.indoms serial number ≡ true → field ≡ instance_field (offsets draft s) draft.indoms serial number → shown ≡ serial_word serial
     → cond (is_no_domain shown) (nat_eq field 0) (leads_to_instance (image_with_strings draft s) field && (leads_to_indom (image_with_strings draft s) (number64 (image_with_strings draft s) field) && nat_eq (number32 (image_with_strings draft s) (number64 (image_with_strings draft s) field)) shown)) ≡ true
-instance_good draft s few d None None field shown fits is word =
+instance_good draft s fit d None None field shown fits is word =
     ap (λ n. cond (is_no_domain n) (nat_eq field 0) (leads_to_instance (image_with_strings draft s) field && (leads_to_indom (image_with_strings draft s) (number64 (image_with_strings draft s) field) && nat_eq (number32 (image_with_strings draft s) (number64 (image_with_strings draft s) field)) n))) word ∙ eq-eqb field 0 is
-instance_good draft s few d None (Some id) field shown fits is word = cc
-instance_good draft s few d (Some serial) None field shown fits is word = cc
-instance_good draft s few d (Some serial) (Some id) field shown fits is word =
+instance_good draft s fit d None (Some id) field shown fits is word = cc
+instance_good draft s fit d (Some serial) None field shown fits is word = cc
+instance_good draft s fit d (Some serial) (Some id) field shown fits is word =
     let words : List ℕ = image_with_strings draft s in
     let i : ℕ = domain_of draft.indoms serial in
     let p : Passes draft.indoms (domain_of draft.indoms serial) (λ row. nat_eq row.serial serial && list_any (λ other. int_eq other.0 id) row.instances) = domain_found draft d serial id fits in
@@ -95,15 +96,15 @@ instance_good draft s few d (Some serial) (Some id) field shown fits is word =
     let inside : index_in p.row id < length p.row.instances = get_below p.row.instances (index_in p.row id) q.row q.at in
     let below : domain_of draft.indoms serial < length draft.indoms = get_below draft.indoms (domain_of draft.indoms serial) p.row p.at in
     let all : instances_in (take (domain_of draft.indoms serial) draft.indoms) + length p.row.instances ≤ instances_in draft.indoms = before_this draft.indoms (domain_of draft.indoms serial) p.row p.at in
-    let offset : field ≡ (offsets draft s).instances + instance_size * (instances_in (take (domain_of draft.indoms serial) draft.indoms) + index_in p.row id) =
-    is ∙ ap (λ k. (offsets draft s).instances + instance_size * (instances_in (take (domain_of draft.indoms serial) draft.indoms) + k)) (member_found draft serial id p.row p.at) in
-    let owner : number64 words field ≡ (offsets draft s).indoms + indom_size * domain_of draft.indoms serial = owner_read draft s d (domain_of draft.indoms serial) (index_in p.row id) field p.row q.row p.at q.at (omega arith) in
-    let read : number32 words (number64 words field) ≡ p.row.serial = serial_read draft s few d (domain_of draft.indoms serial) (number64 words field) p.row p.at (omega arith) in
+    let offset : field ≡ (offsets draft s).instances + instance_size draft.version * (instances_in (take (domain_of draft.indoms serial) draft.indoms) + index_in p.row id) =
+    is ∙ ap (λ k. (offsets draft s).instances + instance_size draft.version * (instances_in (take (domain_of draft.indoms serial) draft.indoms) + k)) (member_found draft serial id p.row p.at) in
+    let owner : number64 words field ≡ (offsets draft s).indoms + indom_size * domain_of draft.indoms serial = owner_read draft s d (domain_of draft.indoms serial) (index_in p.row id) field p.row q.row p.at q.at (instance_stands draft s (instances_in (take (domain_of draft.indoms serial) draft.indoms) + index_in p.row id) field offset) in
+    let read : number32 words (number64 words field) ≡ p.row.serial = serial_read draft s fit d (domain_of draft.indoms serial) (number64 words field) p.row p.at (omega arith) in
     let fits_serial : p.row.serial ≤ 1023 = serial_fits draft d (domain_of draft.indoms serial) p.row p.at in
     let some : 0 < p.row.serial = one_at_least p.row.serial (d.domains (domain_of draft.indoms serial) p.row p.at).serial in
     ap (λ b. cond b (nat_eq field 0) (leads_to_instance words field && (leads_to_indom words (number64 words field) && nat_eq (number32 words (number64 words field)) shown))) (no_domain shown (omega arith) (omega arith))
-    ∙ ap₂ (λ a b. a && b) (instance_leads_to draft s few (instances_in (take (domain_of draft.indoms serial) draft.indoms) + index_in p.row id) field (omega arith) offset)
-    (ap₂ (λ a b. a && b) (indom_leads draft s few (domain_of draft.indoms serial) (number64 words field) below owner) (eq-eqb (number32 words (number64 words field)) shown (read ∙ keyed ∙ sym word)))
+    ∙ ap₂ (λ a b. a && b) (instance_leads_to draft s fit (instances_in (take (domain_of draft.indoms serial) draft.indoms) + index_in p.row id) field (omega arith) offset)
+    (ap₂ (λ a b. a && b) (indom_leads draft s fit (domain_of draft.indoms serial) (number64 words field) below owner) (eq-eqb (number32 words (number64 words field)) shown (read ∙ keyed ∙ sym word)))
 
 -- The string of a value
 
@@ -118,16 +119,16 @@ or_true : (b : Bool) → (b || true) ≡ true
 or_true true = refl
 or_true false = refl
 
-choice_good : (draft : Layout) (s : List (List ℕ)) → words_in (counts_of draft s) ≤ 65536 → (content : Content) (kind : Kind) (field code : ℕ) → fits_kind kind content ≡ true → HasContent s content → field ≡ extra_field (offsets draft s) s content → code ≡ code_of_kind kind → (not (nat_eq code 6) || leads_to_string (image_with_strings draft s) field) ≡ true
-choice_good draft s few (Number n) kind field code fits has is shown = ap (λ b. b || leads_to_string (image_with_strings draft s) field) (ap (λ n. not (nat_eq n 6)) shown ∙ not_six (code_of_kind kind) fits)
-choice_good draft s few (Choice text) kind field code fits has is shown =
-    ap (λ b. not (nat_eq code 6) || b) (ap (leads_to_string (image_with_strings draft s)) is ∙ string_leads draft s few text has) ∙ or_true (not (nat_eq code 6))
-choice_good draft s few (Raw value extra) kind field code fits has is shown =
+choice_good : (draft : Layout) (s : List (List ℕ)) → Fits draft s → (content : Content) (kind : Kind) (field code : ℕ) → fits_kind kind content ≡ true → HasContent s content → field ≡ extra_field (offsets draft s) s content → code ≡ code_of_kind kind → (not (nat_eq code 6) || leads_to_string (image_with_strings draft s) field) ≡ true
+choice_good draft s fit (Number n) kind field code fits has is shown = ap (λ b. b || leads_to_string (image_with_strings draft s) field) (ap (λ n. not (nat_eq n 6)) shown ∙ not_six (code_of_kind kind) fits)
+choice_good draft s fit (Choice text) kind field code fits has is shown =
+    ap (λ b. not (nat_eq code 6) || b) (ap (leads_to_string (image_with_strings draft s)) is ∙ string_leads draft s fit text has) ∙ or_true (not (nat_eq code 6))
+choice_good draft s fit (Raw value extra) kind field code fits has is shown =
     ap (λ b. b || leads_to_string (image_with_strings draft s) field) (ap (λ n. not (nat_eq n 6)) shown ∙ not_or (nat_le (code_of_kind kind) 3) (nat_eq (code_of_kind kind) 6) fits)
 
 -- Fields of a value
 
-pub metric_field : (draft : Layout) (s : List (List ℕ)) (i at : ℕ) (row : ValueRow) → slice_get draft.values i ≡ Some row → at ≡ metric_offset_in_value (8 * (values_from draft s + value_length * i)) → number64 (image_with_strings draft s) at ≡ (offsets draft s).metrics + metric_size * metric_index draft row.item
+pub metric_field : (draft : Layout) (s : List (List ℕ)) (i at : ℕ) (row : ValueRow) → slice_get draft.values i ≡ Some row → at ≡ metric_offset_in_value (8 * (values_from draft s + value_length * i)) → number64 (image_with_strings draft s) at ≡ (offsets draft s).metrics + metric_size draft.version * metric_index draft row.item
 unfolding value_words
 metric_field draft s i at row here e = word_read (image_with_strings draft s) (values_from draft s + value_length * i) 2 at (value_words (offsets draft s) s draft.indoms draft.metrics row) (stand_value draft s i row here) (omega arith) (omega arith)
 
@@ -163,10 +164,10 @@ fields_differ draft s d (Some serial) (Some a) (Some b) fa fb other =
     let equal : a ≡ b = sym (same_int x.row.0 a x.is) ∙ ap (λ z. z.0) same ∙ same_int y.row.0 b y.is in
     true≢false (sym (ap (int_eq a) (sym equal) ∙ int_same a) ∙ other) in
     ap₂ nat_eq (ap (λ k. instance_offset (offsets draft s) draft.indoms serial k) (member_found draft serial a p.row p.at)) (ap (λ k. instance_offset (offsets draft s) draft.indoms serial k) (member_found draft serial b q.row q.at))
-    ∙ isnt _ _ (apart (offsets draft s).instances (instances_in (take (domain_of draft.indoms serial) draft.indoms)) (index_in p.row a) (index_in q.row b) places_differ)
+    ∙ isnt _ _ (apart (offsets draft s).instances draft.version (instances_in (take (domain_of draft.indoms serial) draft.indoms)) (index_in p.row a) (index_in q.row b) places_differ)
   where
-    apart : (p t a b : ℕ) → a ≢ b → p + instance_size * (t + a) ≢ p + instance_size * (t + b)
-    apart p t a b h e = h (omega arith)
+    apart : (p version t a b : ℕ) → a ≢ b → p + instance_size version * (t + a) ≢ p + instance_size version * (t + b)
+    apart p version t a b h e = let same : t + a ≡ t + b = instances_same version p (t + a) (t + b) e in h (omega arith)
 
 and_false : (b : Bool) → (b && false) ≡ false
 and_false true = refl
@@ -194,8 +195,8 @@ other_value draft s d j i at_a at_b a b here_a here_b less ea eb = here (nat_eq 
     fits_q : fits_instance draft.indoms q.row.serial b.instance ≡ true
     fits_q = both_left (fits_instance draft.indoms q.row.serial b.instance) (fits_kind q.row.kind b.content) (both_right (nat_eq q.row.item b.item) (fits_instance draft.indoms q.row.serial b.instance && fits_kind q.row.kind b.content) q.is)
 
-    apart : (p a b : ℕ) → a ≢ b → p + metric_size * a ≢ p + metric_size * b
-    apart p a b h e = h (omega arith)
+    apart : (p a b : ℕ) → a ≢ b → p + metric_size draft.version * a ≢ p + metric_size draft.version * b
+    apart p a b h e = h (metrics_same draft.version p a b e)
 
     here : (t : Bool) → nat_eq a.item b.item ≡ t → (t && is_same_number a.instance b.instance) ≡ false → (nat_eq (number64 (image_with_strings draft s) (metric_offset_in_value at_a)) (number64 (image_with_strings draft s) (metric_offset_in_value at_b)) && nat_eq (number64 (image_with_strings draft s) (instance_offset_in_value at_a)) (number64 (image_with_strings draft s) (instance_offset_in_value at_b))) ≡ false
     here true e other =
@@ -213,29 +214,30 @@ other_value draft s d j i at_a at_b a b here_a here_b less ea eb = here (nat_eq 
         (ap₂ nat_eq (metric_field draft s j (metric_offset_in_value at_a) a here_a (ap metric_offset_in_value ea)) (metric_field draft s i (metric_offset_in_value at_b) b here_b (ap metric_offset_in_value eb))
         ∙ isnt _ _ (apart (offsets draft s).metrics (metric_index draft a.item) (metric_index draft b.item) indexes))
 
-good_value : (draft : Layout) (s : List (List ℕ)) → words_in (counts_of draft s) ≤ 65536 → IsDraft draft → Each (λ row. HasContent s row.content) draft.values → (i : ℕ) → i < length draft.values → is_good_value (image_with_strings draft s) i ≡ true
+good_value : (draft : Layout) (s : List (List ℕ)) → Fits draft s → IsDraft draft → Each (λ row. HasContent s row.content) draft.values → (i : ℕ) → i < length draft.values → is_good_value (image_with_strings draft s) i ≡ true
 unfolding is_good_value instance_leads choice_leads is_new_value metric_of
-good_value draft s few d texts i below =
+good_value draft s fit d texts i below =
     let words : List ℕ = image_with_strings draft s in
     let (row, here) = get_some draft.values i below in
-    let offset : value_at words i ≡ 8 * (values_from draft s + value_length * i) = value_is draft s few i below in
+    let offset : value_at words i ≡ 8 * (values_from draft s + value_length * i) = value_is draft s fit i below in
     let p : Passes draft.metrics (metric_index draft row.item) (λ metric. fits_metric draft.indoms row metric) = metric_found draft d row (d.values i row here).metric in
     let fits : (fits_instance draft.indoms p.row.serial row.instance && fits_kind p.row.kind row.content) ≡ true = both_right (nat_eq p.row.item row.item) (fits_instance draft.indoms p.row.serial row.instance && fits_kind p.row.kind row.content) p.is in
     let inside : metric_index draft row.item < length draft.metrics = get_below draft.metrics (metric_index draft row.item) p.row p.at in
-    let metric : number64 words (metric_offset_in_value (value_at words i)) ≡ (offsets draft s).metrics + metric_size * metric_index draft row.item = metric_field draft s i (metric_offset_in_value (value_at words i)) row here (ap metric_offset_in_value offset) in
-    let kind : number32 words (type_offset_in_metric (number64 words (metric_offset_in_value (value_at words i)))) ≡ code_of_kind p.row.kind = kind_read draft s d (metric_index draft row.item) (type_offset_in_metric (number64 words (metric_offset_in_value (value_at words i)))) p.row p.at (omega arith) in
-    let serial : number32 words (serial_offset_in_metric (number64 words (metric_offset_in_value (value_at words i)))) ≡ serial_word p.row.serial = metric_serial_read draft s d (metric_index draft row.item) (serial_offset_in_metric (number64 words (metric_offset_in_value (value_at words i)))) p.row p.at (omega arith) in
+    let metric : number64 words (metric_offset_in_value (value_at words i)) ≡ (offsets draft s).metrics + metric_size draft.version * metric_index draft row.item = metric_field draft s i (metric_offset_in_value (value_at words i)) row here (ap metric_offset_in_value offset) in
+    let stands : number64 words (metric_offset_in_value (value_at words i)) ≡ 8 * (metrics_from draft s + metric_length draft.version * metric_index draft row.item) = metric_stands draft s (metric_index draft row.item) (number64 words (metric_offset_in_value (value_at words i))) metric in
+    let kind : number32 words (type_offset_in_metric words (number64 words (metric_offset_in_value (value_at words i)))) ≡ code_of_kind p.row.kind = kind_read draft s fit d (metric_index draft row.item) (type_offset_in_metric words (number64 words (metric_offset_in_value (value_at words i)))) p.row p.at (ap (type_offset_in_metric words) stands) in
+    let serial : number32 words (serial_offset_in_metric words (number64 words (metric_offset_in_value (value_at words i)))) ≡ serial_word p.row.serial = metric_serial_read draft s fit d (metric_index draft row.item) (serial_offset_in_metric words (number64 words (metric_offset_in_value (value_at words i)))) p.row p.at (ap (serial_offset_in_metric words) stands) in
     ap₂ (λ a b. a && b) (ap₂ (λ a b. a && b) (ap₂ (λ a b. a && b)
-    (metric_leads draft s few (metric_index draft row.item) (number64 words (metric_offset_in_value (value_at words i))) inside metric)
-    (instance_good draft s few d p.row.serial row.instance (number64 words (instance_offset_in_value (value_at words i))) (number32 words (serial_offset_in_metric (number64 words (metric_offset_in_value (value_at words i))))) (both_left (fits_instance draft.indoms p.row.serial row.instance) (fits_kind p.row.kind row.content) fits)
+    (metric_leads draft s fit (metric_index draft row.item) (number64 words (metric_offset_in_value (value_at words i))) inside metric)
+    (instance_good draft s fit d p.row.serial row.instance (number64 words (instance_offset_in_value (value_at words i))) (number32 words (serial_offset_in_metric words (number64 words (metric_offset_in_value (value_at words i))))) (both_left (fits_instance draft.indoms p.row.serial row.instance) (fits_kind p.row.kind row.content) fits)
     (instance_read draft s i (instance_offset_in_value (value_at words i)) row p.row here p.at (ap instance_offset_in_value offset)) serial))
-    (choice_good draft s few row.content p.row.kind (number64 words (extra_offset_in_value (value_at words i))) (number32 words (type_offset_in_metric (number64 words (metric_offset_in_value (value_at words i))))) (both_right (fits_instance draft.indoms p.row.serial row.instance) (fits_kind p.row.kind row.content) fits) (texts i row here)
+    (choice_good draft s fit row.content p.row.kind (number64 words (extra_offset_in_value (value_at words i))) (number32 words (type_offset_in_metric words (number64 words (metric_offset_in_value (value_at words i))))) (both_right (fits_instance draft.indoms p.row.serial row.instance) (fits_kind p.row.kind row.content) fits) (texts i row here)
     (extra_read draft s i (extra_offset_in_value (value_at words i)) row here (ap extra_offset_in_value offset)) kind))
     (all_hold i (λ j. not (is_same_value words (value_at words j) (value_at words i))) (λ j less.
     let (other, there) = get_some draft.values j (omega arith) in
-    ap not (other_value draft s d j i (value_at words j) (value_at words i) other row there here less (value_is draft s few j (omega arith)) offset)))
+    ap not (other_value draft s d j i (value_at words j) (value_at words i) other row there here less (value_is draft s fit j (omega arith)) offset)))
 
-pub good_values : (draft : Layout) (s : List (List ℕ)) → words_in (counts_of draft s) ≤ 65536 → IsDraft draft → Each (λ row. HasContent s row.content) draft.values → values_are_good (image_with_strings draft s) ≡ true
+pub good_values : (draft : Layout) (s : List (List ℕ)) → Fits draft s → IsDraft draft → Each (λ row. HasContent s row.content) draft.values → values_are_good (image_with_strings draft s) ≡ true
 unfolding values_are_good
-good_values draft s few d texts =
-    all_hold (value_count (image_with_strings draft s)) (is_good_value (image_with_strings draft s)) (λ i below. good_value draft s few d texts i (subst (λ n. i < n) (find_values draft s few).count below))
+good_values draft s fit d texts =
+    all_hold (value_count (image_with_strings draft s)) (is_good_value (image_with_strings draft s)) (λ i below. good_value draft s fit d texts i (subst (λ n. i < n) (find_values draft s fit).count below))

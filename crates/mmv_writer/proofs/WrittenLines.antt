@@ -17,7 +17,7 @@ use Rattle.text_lines.proofs.ContentRanges.{content_stands}
 use Rattle.text_lines.specs.LayoutLaws.{IsNameByte, IsLineName, IsWritten}
 use Rattle.mmv_writer.proofs.Positions.{first_passes}
 use Rattle.mmv_layout.specs.Entries.{is_serial}
-use Rattle.mmv_writer.specs.Rules.{is_metric_name, fits_instance}
+use Rattle.mmv_writer.specs.Rules.{is_short_name, is_metric_name, fits_instance}
 use Rattle.mmv_writer.specs.Draft.{Each, IsStored, IsHelp, IsNumber, IsDomain, HasDomain, IsContent}
 use Rattle.mmv_writer.specs.TextLaws.{HasFields}
 use Rattle.mmv_writer.proofs.TextDrafts.{tail_all, cons_all, no_all}
@@ -90,9 +90,9 @@ unquoted [] h = cc
 unquoted (b ∷ bs) h =
     let r : Between 65 122 b = letter_between b (both_left (is_letter b) (spells false bs) h) in (omega arith, λ e. absurd (omega arith))
 
-pub name_in_line : (name : List ℕ) → is_metric_name name ≡ true → IsLineName name
-name_in_line name h =
-    let s : spells true name ≡ true = both_left (spells true name) (nat_le (length name) 63) h in
+pub name_in_line : (version : ℕ) (name : List ℕ) → is_metric_name version name ≡ true → IsLineName name
+name_in_line version name h =
+    let s : spells true name ≡ true = both_left (spells true name) (is_short_name version name) h in
     let u : (0 < length name) × (slice_index name 0 ≢ 34) = unquoted name s in
     record { some = u.0; unquoted = u.1; bytes = name_bytes true name s }
 
@@ -104,8 +104,8 @@ serial_small serial h = let s : serial ≤ 1023 = leb-true serial 1023 (both_rig
 pub id_in_line : (id : ℤ) → IsNumber id → IsInt32 id
 id_in_line id (n, is, small) = subst IsInt32 (sym is) small
 
-module _ (indoms : List IndomRow) (domains : Each IsDomain indoms) where
-  pub domain_in_line : (row : IndomRow) → IsDomain row → row.serial < 4294967296
+module _ (version : ℕ) (indoms : List IndomRow) (domains : Each (IsDomain version) indoms) where
+  pub domain_in_line : (row : IndomRow) → IsDomain version row → row.serial < 4294967296
   domain_in_line row d = serial_small row.serial d.serial
 
   pub serial_in_line : (serial : Option ℕ) → HasDomain indoms serial → IfSome serial (λ s. s < 4294967296)

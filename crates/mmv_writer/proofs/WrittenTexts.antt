@@ -213,7 +213,7 @@ module _ (draft : Layout) (w : IsWrittenDraft draft) where
       (added (text_fault text) (with_string (stage draft before [] [] []) text) (ap (λ b. cond b (Some Name) None) is.short))
 
   module _ (before : List IndomRow) (row : IndomRow) (rows : List IndomRow) (e : before ++ row ∷ rows ≡ draft.indoms) where
-    fine : IsDomain row
+    fine : IsDomain draft.version row
     fine = w.rows.domains (length before) row (row_there draft.indoms before row rows e)
 
     no_other : list_any (λ other. nat_eq other.serial row.serial) before ≡ false
@@ -226,10 +226,10 @@ module _ (draft : Layout) (w : IsWrittenDraft draft) where
     abbrev at : List (ℤ × List ℕ) → Layout
     at members = stage draft draft.strings (before ++ domain_of members ∷ []) [] []
 
-    instance_none : (members : List (ℤ × List ℕ)) (x : ℤ × List ℕ) (xs : List (ℤ × List ℕ)) → members ++ x ∷ xs ≡ row.instances → IsInstance x → instance_fault (at members) row.serial x.0 x.1 ≡ None
+    instance_none : (members : List (ℤ × List ℕ)) (x : ℤ × List ℕ) (xs : List (ℤ × List ℕ)) → members ++ x ∷ xs ≡ row.instances → IsInstance draft.version x → instance_fault (at members) row.serial x.0 x.1 ≡ None
     unfolding instance_fault
     instance_none members x xs f is =
-        four_none (is_instance_name x.1) (has_same_instance (before ++ domain_of members ∷ []) row.serial x) (has_domain (before ++ domain_of members ∷ []) row.serial) (is_negative x.0) Name Duplicate (Unknown row.serial) Serial
+        four_none (is_instance_name draft.version x.1) (has_same_instance (before ++ domain_of members ∷ []) row.serial x) (has_domain (before ++ domain_of members ∷ []) row.serial) (is_negative x.0) Name Duplicate (Unknown row.serial) Serial
         is.name
         (any_snoc (λ r. nat_eq r.serial row.serial && list_any (λ other. is_same_instance other x) r.instances) before (domain_of members)
         (none_of (λ r. nat_eq r.serial row.serial && list_any (λ other. is_same_instance other x) r.instances) before
@@ -241,9 +241,9 @@ module _ (draft : Layout) (w : IsWrittenDraft draft) where
     instance_step : (members : List (ℤ × List ℕ)) (x : ℤ × List ℕ) (xs : List (ℤ × List ℕ)) → members ++ x ∷ xs ≡ row.instances → Goes (full_line (lines.Instance row.serial x.0 x.1)) (at members) (at (members ++ x ∷ []))
     unfolding with_line with_instance
     instance_step members x xs f =
-        let is : IsInstance x = fine.instances (length members) x (row_there row.instances members x xs f) in
+        let is : IsInstance draft.version x = fine.instances (length members) x (row_there row.instances members x xs f) in
         line_goes (lines.Instance row.serial x.0 x.1) (at members) (at (members ++ x ∷ []))
-        (domain_in_line draft.indoms w.rows.domains row fine, id_in_line x.0 is.number, text_of x.1 is.stored)
+        (domain_in_line draft.version draft.indoms w.rows.domains row fine, id_in_line x.0 is.number, text_of x.1 is.stored)
         (added (instance_fault (at members) row.serial x.0 x.1) (with_instance (at members) row.serial x.0 x.1) (instance_none members x xs f is)
         ∙ ap (λ indoms. Ok (stage draft draft.strings indoms [] [])) (add_last before (domain_of members) row.serial x no_other (eq-eqb row.serial row.serial refl)))
 
@@ -257,7 +257,7 @@ module _ (draft : Layout) (w : IsWrittenDraft draft) where
     unfolding with_line with_domain
     domain_line =
         line_goes (lines.Indom row.serial row.short row.long) (stage draft draft.strings before [] []) (at [])
-        (domain_in_line draft.indoms w.rows.domains row fine, help_in_line row.short fine.short, help_in_line row.long fine.long)
+        (domain_in_line draft.version draft.indoms w.rows.domains row fine, help_in_line row.short fine.short, help_in_line row.long fine.long)
         (added (indom_fault (stage draft draft.strings before [] []) (new_domain row.serial row.short row.long)) (with_domain (stage draft draft.strings before [] []) (new_domain row.serial row.short row.long)) domain_none)
 
     domain_step : Goes (indom_text row) (stage draft draft.strings before [] []) (stage draft draft.strings (before ++ row ∷ []) [] [])
@@ -267,13 +267,13 @@ module _ (draft : Layout) (w : IsWrittenDraft draft) where
         (rows_go (instances_text row.serial) (λ x. full_line (lines.Instance row.serial x.0 x.1)) at row.instances refl (λ x xs. refl) instance_step [] row.instances refl)
 
   module _ (before : List MetricRow) (row : MetricRow) (rows : List MetricRow) (e : before ++ row ∷ rows ≡ draft.metrics) where
-    metric_is : IsMetric draft.indoms row
+    metric_is : IsMetric draft.version draft.indoms row
     metric_is = w.rows.metrics (length before) row (row_there draft.metrics before row rows e)
 
     none_fault : metric_fault (stage draft draft.strings draft.indoms before []) row ≡ None
     unfolding metric_fault
     none_fault =
-        metric_none (is_metric_name row.name) (is_long_help row.short || is_long_help row.long) (list_any (λ other. is_same_metric other row) before) (lacks_domain draft.indoms row.serial) (nat_le row.item 1023)
+        metric_none (is_metric_name draft.version row.name) (is_long_help row.short || is_long_help row.long) (list_any (λ other. is_same_metric other row) before) (lacks_domain draft.indoms row.serial) (nat_le row.item 1023)
         metric_is.name (short_helps row.short row.long metric_is.short metric_is.long) (none_same draft.metrics before row rows e is_same_metric w.rows.items)
         (lacks_none draft.indoms row.serial metric_is.domain) (le-leb row.item 1023 metric_is.item)
 
@@ -283,10 +283,10 @@ module _ (draft : Layout) (w : IsWrittenDraft draft) where
         let small : row.item ≤ 1023 = metric_is.item in
         line_goes (lines.Metric row) (stage draft draft.strings draft.indoms before []) (stage draft draft.strings draft.indoms (before ++ row ∷ []) [])
         (record {
-          name = name_in_line row.name metric_is.name;
+          name = name_in_line draft.version row.name metric_is.name;
           item = omega arith;
           units = metric_is.units;
-          serial = serial_in_line draft.indoms w.rows.domains row.serial metric_is.domain;
+          serial = serial_in_line draft.version draft.indoms w.rows.domains row.serial metric_is.domain;
           short = help_in_line row.short metric_is.short;
           long = help_in_line row.long metric_is.long;
         })
@@ -321,10 +321,10 @@ module _ (draft : Layout) (w : IsWrittenDraft draft) where
         let p = first_passes (λ m. fits_metric draft.indoms row m) draft.metrics value_is.metric in
         let same : p.row.item ≡ row.item = eqb-true p.row.item row.item (both_left (nat_eq p.row.item row.item) (fits_instance draft.indoms p.row.serial row.instance && fits_kind p.row.kind row.content) p.is) in
         let rest : (fits_instance draft.indoms p.row.serial row.instance && fits_kind p.row.kind row.content) ≡ true = both_right (nat_eq p.row.item row.item) (fits_instance draft.indoms p.row.serial row.instance && fits_kind p.row.kind row.content) p.is in
-        let metric : IsMetric draft.indoms p.row = w.rows.metrics _ p.row p.at in
+        let metric : IsMetric draft.version draft.indoms p.row = w.rows.metrics _ p.row p.at in
         let small : p.row.item ≤ 1023 = metric.item in (
           omega arith,
-          number_in_line draft.indoms w.rows.domains p.row.serial row.instance (both_left (fits_instance draft.indoms p.row.serial row.instance) (fits_kind p.row.kind row.content) rest),
+          number_in_line draft.version draft.indoms w.rows.domains p.row.serial row.instance (both_left (fits_instance draft.indoms p.row.serial row.instance) (fits_kind p.row.kind row.content) rest),
           content_in_line kind row.content in_range.fields value_is.content,
         )
 

@@ -39,16 +39,16 @@ IsHelp (Some text) = IsString text
 abbrev pub IsNumber : ℤ → Type 0
 IsNumber id = (n : ℕ) × (id ≡ pos n) × (n < 2147483648)
 
-pub record IsInstance (instance : ℤ × List ℕ) : Type 0 where
+pub record IsInstance (version : ℕ) (instance : ℤ × List ℕ) : Type 0 where
   pub number : IsNumber instance.0
-  pub name : is_instance_name instance.1 ≡ true
+  pub name : is_instance_name version instance.1 ≡ true
   pub stored : IsStored instance.1
 
-pub record IsDomain (row : IndomRow) : Type 0 where
+pub record IsDomain (version : ℕ) (row : IndomRow) : Type 0 where
   pub serial : is_serial row.serial ≡ true
   pub short : IsHelp row.short
   pub long : IsHelp row.long
-  pub instances : Each IsInstance row.instances
+  pub instances : Each (IsInstance version) row.instances
   pub apart : Apart is_same_instance row.instances
 
 -- a metric without a domain, or with one that is there
@@ -56,8 +56,8 @@ abbrev pub HasDomain : List IndomRow → Option ℕ → Type 0
 HasDomain indoms None = Unit {0}
 HasDomain indoms (Some serial) = has_domain indoms serial ≡ true
 
-pub record IsMetric (indoms : List IndomRow) (row : MetricRow) : Type 0 where
-  pub name : is_metric_name row.name ≡ true
+pub record IsMetric (version : ℕ) (indoms : List IndomRow) (row : MetricRow) : Type 0 where
+  pub name : is_metric_name version row.name ≡ true
   pub stored : IsStored row.name
   pub item : row.item ≤ 1023
   pub units : row.units < 2 ^ 32
@@ -83,9 +83,9 @@ pub record IsDraft (draft : Layout) : Type 0 where
   pub flags : draft.flags < 2 ^ 32
   pub process : draft.pid < 2 ^ 32
   pub cluster : draft.cluster ≤ 4095
-  pub domains : Each IsDomain draft.indoms
+  pub domains : Each (IsDomain draft.version) draft.indoms
   pub serials : Apart is_same_serial draft.indoms
-  pub metrics : Each (IsMetric draft.indoms) draft.metrics
+  pub metrics : Each (IsMetric draft.version draft.indoms) draft.metrics
   pub items : Apart is_same_metric draft.metrics
   pub values : Each (IsValue draft.indoms draft.metrics) draft.values
   pub places : Apart is_same_value draft.values

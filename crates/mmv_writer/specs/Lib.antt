@@ -1,6 +1,7 @@
 pub mod Draft
 pub mod Keys
 pub mod Laws
+pub mod Lifting
 pub mod Offsets
 pub mod Reading
 pub mod Refusals

@@ -1,4 +1,4 @@
--- Which rows a builder refuses (mmv(5), version 1), each by the first of its rules that the row breaks.
+-- Which rows a builder refuses (mmv(5)), each by the first of its rules that the row breaks.
 use Rattle.std.specs.Prelude.{ℕ, ℤ, Bool, true, false, not, ◌&&◌, ◌||◌, ◌==◌, nat_le, nat_lt, if◌then◌else◌, List, length, Option, Some, None, bytes_eq}
 use Rattle.std.specs.List.{list_any}
 use Rattle.std.specs.Int.{is_negative}
@@ -6,7 +6,7 @@ use Rattle.std.specs.Ordering.{int_eq}
 use Rattle.pcp_base.specs.Codes.{code_of_kind}
 use Rattle.pcp_base.specs.Names.{spells}
 use Rattle.pcp_base.specs.declared.kind.Kind.{Kind}
-use Rattle.mmv_layout.specs.Sizes.{is_version}
+use Rattle.mmv_layout.specs.Sizes.{is_version, name_room}
 use Rattle.mmv_layout.specs.Entries.{is_serial}
 use Rattle.mmv_layout.specs.declared.rows.IndomRow.{IndomRow}
 use Rattle.mmv_layout.specs.declared.rows.MetricRow.{MetricRow}
@@ -40,9 +40,13 @@ indom_fault draft row =
     if has_domain draft.indoms row.serial then Some Duplicate else
     if is_serial row.serial then None else Some Serial
 
--- an instance's name has 1 to 63 bytes
-abbrev pub is_instance_name : List ℕ → Bool
-is_instance_name name = nat_le 1 (length name) && nat_le (length name) 63
+-- a name is short enough for a version, with a zero byte behind it: it has at most 63 bytes in version 1, 255 in version 2
+abbrev pub is_short_name : ℕ → List ℕ → Bool
+is_short_name version name = nat_lt (length name) (name_room version)
+
+-- an instance's name has some bytes, and isn't too long
+abbrev pub is_instance_name : ℕ → List ℕ → Bool
+is_instance_name version name = nat_le 1 (length name) && is_short_name version name
 
 -- two instances have one number or one name
 abbrev pub is_same_instance : ℤ × List ℕ → ℤ × List ℕ → Bool
@@ -56,14 +60,14 @@ has_same_instance indoms serial instance =
 -- an instance: its name, its number or name in its domain, its domain, a negative number
 unfoldable pub instance_fault : Layout → ℕ → ℤ → List ℕ → Option BuildFault
 instance_fault draft serial id name =
-    if not (is_instance_name name) then Some Name else
+    if not (is_instance_name draft.version name) then Some Name else
     if has_same_instance draft.indoms serial (id, name) then Some Duplicate else
     if not (has_domain draft.indoms serial) then Some (Unknown serial) else
     if is_negative id then Some Serial else None
 
--- a metric's name is a name of at most 63 bytes
-abbrev pub is_metric_name : List ℕ → Bool
-is_metric_name name = spells true name && nat_le (length name) 63
+-- a metric's name is a name that isn't too long
+abbrev pub is_metric_name : ℕ → List ℕ → Bool
+is_metric_name version name = spells true name && is_short_name version name
 
 -- two metrics have one item or one name
 abbrev pub is_same_metric : MetricRow → MetricRow → Bool
@@ -81,7 +85,7 @@ unknown_or (Some serial) fault = Some (Unknown serial)
 -- a metric: its name and helps, its item or name, its domain, its item's range
 unfoldable pub metric_fault : Layout → MetricRow → Option BuildFault
 metric_fault draft row =
-    if not (is_metric_name row.name) || (is_long_help row.short || is_long_help row.long) then Some Name else
+    if not (is_metric_name draft.version row.name) || (is_long_help row.short || is_long_help row.long) then Some Name else
     if list_any (λ other. is_same_metric other row) draft.metrics then Some Duplicate else
     unknown_or (lacks_domain draft.indoms row.serial) (if nat_le row.item 1023 then None else Some Item)
 

@@ -1,4 +1,4 @@
--- The one spelling of a draft as words (mmv(5), version 1): the header, the contents, then the entries of each section
+-- The one spelling of a draft as words (mmv(5)): the header, the contents, then the entries of each section
 -- in the order in which the rows were given. Word i is the bytes 8i to 8i + 7, the low byte first.
 use Rattle.std.specs.Prelude.{ℕ, ℤ, ◌+◌, ◌*◌, ◌==◌, if◌then◌else◌, List, [], ◌∷◌, ◌++◌, take, length, Option, Some, None, find, bytes_eq}
 use Rattle.std.specs.List.{list_any, position_or_len, flat_map}
@@ -15,7 +15,7 @@ use Rattle.mmv_layout.specs.declared.rows.Layout.{Layout}
 use Rattle.mmv_writer.specs.declared.offsets.Counts.{Counts}
 use Rattle.mmv_writer.specs.declared.offsets.SectionOffsets.{SectionOffsets}
 use Rattle.mmv_writer.specs.Offsets.{instances_in, counts_of, sections_in, section_offsets}
-use Rattle.mmv_layout.specs.Sizes.{indom_size, instance_size, metric_size, string_size}
+use Rattle.mmv_layout.specs.Sizes.{has_inline_names, indom_size, instance_size, metric_size, string_size}
 use Rattle.mmv_writer.specs.Offsets.{name_length, string_length}
 
 -- Strings
@@ -29,11 +29,25 @@ texts_in (Number n) = []
 texts_in (Choice text) = text ∷ []
 texts_in (Raw value extra) = []
 
--- the texts that references lead to: the helps of the domains, those of the metrics, and the string values
+-- a name that stands in its field isn't referred to, and in version 2 each is
+abbrev pub texts_of_name : ℕ → List ℕ → List (List ℕ)
+texts_of_name version name = if has_inline_names version then [] else name ∷ []
+
+abbrev pub texts_of_domain : IndomRow → List (List ℕ)
+texts_of_domain row = texts_of row.short ++ texts_of row.long
+
+abbrev pub texts_of_instances : ℕ → IndomRow → List (List ℕ)
+texts_of_instances version row = flat_map (λ instance. texts_of_name version instance.1) row.instances
+
+abbrev pub texts_of_metric : ℕ → MetricRow → List (List ℕ)
+texts_of_metric version row = texts_of_name version row.name ++ (texts_of row.short ++ texts_of row.long)
+
+-- the texts that references lead to: the helps of all domains, the names of all instances, of each metric its name and
+-- its helps, and the string values
 abbrev pub reference_texts : Layout → List (List ℕ)
 reference_texts draft =
-    flat_map (λ row. texts_of row.short ++ texts_of row.long) draft.indoms
-    ++ (flat_map (λ row. texts_of row.short ++ texts_of row.long) draft.metrics ++ flat_map (λ row. texts_in row.content) draft.values)
+    flat_map texts_of_domain draft.indoms ++ (flat_map (texts_of_instances draft.version) draft.indoms
+    ++ (flat_map (texts_of_metric draft.version) draft.metrics ++ flat_map (λ row. texts_in row.content) draft.values))
 
 -- strings, and behind them each text that isn't among those before it
 unfoldable pub with_missing : List (List ℕ) → List (List ℕ) → List (List ℕ)
@@ -63,10 +77,10 @@ domain_offset offsets indoms serial = offsets.indoms + indom_size * domain_of in
 
 -- the offset of instance k of the domain with a serial: behind the instances of all earlier domains
 abbrev pub instance_offset : SectionOffsets → List IndomRow → ℕ → ℕ → ℕ
-instance_offset offsets indoms serial k = offsets.instances + instance_size * (instances_in (take (domain_of indoms serial) indoms) + k)
+instance_offset offsets indoms serial k = offsets.instances + instance_size offsets.version * (instances_in (take (domain_of indoms serial) indoms) + k)
 
 abbrev pub metric_offset : SectionOffsets → List MetricRow → ℕ → ℕ
-metric_offset offsets metrics item = offsets.metrics + metric_size * position_or_len (λ metric. metric.item == item) metrics
+metric_offset offsets metrics item = offsets.metrics + metric_size offsets.version * position_or_len (λ metric. metric.item == item) metrics
 
 -- Entries
 
@@ -97,9 +111,14 @@ unfoldable pub domain_words : SectionOffsets → List (List ℕ) → List IndomR
 domain_words offsets strings indoms row =
     halves row.serial (length row.instances) ∷ first_instance offsets indoms row ∷ help_offset offsets strings row.short ∷ help_offset offsets strings row.long ∷ []
 
--- an instance: its domain, a zero, its number and its name filled up with zeros
-unfoldable pub instance_words : ℕ → ℤ × List ℕ → List ℕ
-instance_words domain instance = domain ∷ halves 0 (cast_unsigned w32 instance.0) ∷ first_words name_length instance.1
+-- a name field: the name filled up with zeros, or in version 2 the offset of its string
+unfoldable pub name_words : SectionOffsets → List (List ℕ) → List ℕ → List ℕ
+name_words offsets strings name =
+    if has_inline_names offsets.version then first_words (name_length offsets.version) name else string_offset offsets strings name ∷ []
+
+-- an instance: its domain, a zero, its number and its name
+unfoldable pub instance_words : SectionOffsets → List (List ℕ) → ℕ → ℤ × List ℕ → List ℕ
+instance_words offsets strings domain instance = domain ∷ halves 0 (cast_unsigned w32 instance.0) ∷ name_words offsets strings instance.1
 
 abbrev pub serial_word : Option ℕ → ℕ
 serial_word None = 4294967295
@@ -107,7 +126,7 @@ serial_word (Some serial) = serial
 
 unfoldable pub metric_words : SectionOffsets → List (List ℕ) → MetricRow → List ℕ
 metric_words offsets strings row =
-    first_words name_length row.name ++ (halves row.item (code_of_kind row.kind) ∷ halves (code_of_semantics row.semantics) row.units ∷ serial_word row.serial
+    name_words offsets strings row.name ++ (halves row.item (code_of_kind row.kind) ∷ halves (code_of_semantics row.semantics) row.units ∷ serial_word row.serial
     ∷ help_offset offsets strings row.short ∷ help_offset offsets strings row.long ∷ [])
 
 abbrev pub value_field : Content → ℕ
@@ -151,8 +170,9 @@ value_words offsets strings indoms metrics row =
 unfoldable pub domain_section : SectionOffsets → List (List ℕ) → List IndomRow → List ℕ
 domain_section offsets strings indoms = flat_map (λ row. domain_words offsets strings indoms row) indoms
 
-unfoldable pub instance_section : SectionOffsets → List IndomRow → List ℕ
-instance_section offsets indoms = flat_map (λ row. flat_map (λ instance. instance_words (domain_offset offsets indoms row.serial) instance) row.instances) indoms
+unfoldable pub instance_section : SectionOffsets → List (List ℕ) → List IndomRow → List ℕ
+instance_section offsets strings indoms =
+    flat_map (λ row. flat_map (λ instance. instance_words offsets strings (domain_offset offsets indoms row.serial) instance) row.instances) indoms
 
 unfoldable pub metric_section : SectionOffsets → List (List ℕ) → List MetricRow → List ℕ
 metric_section offsets strings metrics = flat_map (λ row. metric_words offsets strings row) metrics
@@ -166,7 +186,7 @@ string_section strings = flat_map (λ text. first_words string_length text) stri
 -- the sections of a draft, in the order of their types
 unfoldable pub sections_words : Layout → List (List ℕ) → SectionOffsets → List ℕ
 sections_words draft strings offsets =
-    domain_section offsets strings draft.indoms ++ (instance_section offsets draft.indoms ++ (metric_section offsets strings draft.metrics
+    domain_section offsets strings draft.indoms ++ (instance_section offsets strings draft.indoms ++ (metric_section offsets strings draft.metrics
     ++ (value_section offsets strings draft.indoms draft.metrics draft.values ++ string_section strings)))
 
 -- an image of a draft with these strings

@@ -20,7 +20,7 @@ use pcp_base::{Kind, List, NoMemory, Text};
 use std::alloc::Global;
 use std::marker::Model;
 
-/// The rows of an image of version 1 (mmv(5)) that were given so far, each checked as it came. Contracts see it as
+/// The rows of an image (mmv(5)) that were given so far, each checked as it came. Contracts see it as
 /// what they say.
 #[derive(Drop)]
 pub struct Builder {
@@ -90,7 +90,7 @@ impl Builder {
         ensures value { result ≡ instance_fault self.now serial id.now name.now }
         ensures stored { IsStored name.now }
     {
-        if !is_instance_name(name) {
+        if !is_instance_name(self.layout.version, name) {
             return Some(BuildFault::Name);
         }
         if self.has_same_instance(serial, id, name) {
@@ -138,7 +138,10 @@ impl Builder {
         ensures stored { IsStored row.now.name }
     {
         let _units = row.units.word();
-        if !is_metric_name(&row.name) || is_long_help(&row.short) || is_long_help(&row.long) {
+        if !is_metric_name(self.layout.version, &row.name)
+            || is_long_help(&row.short)
+            || is_long_help(&row.long)
+        {
             return Some(BuildFault::Name);
         }
         if self.has_same_metric(row) {
@@ -193,8 +196,8 @@ impl Builder {
         }
     }
 
-    /// The builder of an image of version 1 without a row; `Serial` exactly for another version or a cluster
-    /// above 4095.
+    /// The builder of an image without a row; `Serial` exactly for a version other than 1 and 2 or a cluster above
+    /// 4095.
     #[tactic(auto, using(crate::proofs::Drafts::nothing_added), unfolding(crate::specs::Draft::empty_draft))]
     pub fn new(
         alloc: Global,
@@ -327,7 +330,7 @@ impl Builder {
         Ok(())
     }
 
-    /// Adds a string, which help texts and string values that are equal to it will share. After a refusal nothing is
+    /// Adds a string, which help texts, string values and in version 2 names that are equal to it will share. After a refusal nothing is
     /// changed.
     #[tactic(auto, using(crate::proofs::Drafts::string_added), unfolding(crate::specs::Draft::with_string))]
     pub fn text(&mut self, text: Text) -> Result<(), BuildFault>

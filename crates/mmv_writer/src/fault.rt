@@ -9,7 +9,8 @@ use thiserror::Error;
 /// Why a row isn't taken or an image isn't made. The first reason in this order is told, and the builder is as it was.
 #[derive(Clone, Copy, Debug, PartialEq, Eq, Error)]
 pub enum BuildFault {
-    /// A name breaks the rule for names, is empty or above 63 bytes, or a text is above 255 bytes.
+    /// A name breaks the rule for names, is empty or too long for the version (above 63 bytes in version 1, 255 in
+    /// version 2), or a text is above 255 bytes.
     #[error("a name that breaks the rule, or a text above 255 bytes")]
     Name,
     /// The row is there: a serial, a number or a name of a domain, an item or a name, or the value of an instance.
@@ -18,7 +19,7 @@ pub enum BuildFault {
     /// No instance domain has this serial.
     #[error("no instance domain has the serial {serial}")]
     Unknown { serial: u32 },
-    /// A serial of 0 or above 1023, a negative instance number, a version other than 1, or a cluster above 4095.
+    /// A serial of 0 or above 1023, a negative instance number, a version other than 1 and 2, or a cluster above 4095.
     #[error("a serial, an instance number, a version or a cluster out of range")]
     Serial,
     /// An item above 1023, or a value without a metric, without an instance of its domain, or of another kind.

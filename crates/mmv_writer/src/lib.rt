@@ -1,6 +1,7 @@
-//! Writes images of memory mapped values, version 1 (mmv(5)). A builder takes the rows of an image one by one and
+//! Writes images of memory mapped values, versions 1 and 2 (mmv(5)). A builder takes the rows of an image one by one and
 //! refuses a row that would break the format; what was built is then spelled in one way alone, without gaps: which strings
-//! it has, where its sections stand, and the words themselves. A whole layout text is read line after line.
+//! it has, where its sections stand, and the words themselves. A whole layout text is read line after line, and an image
+//! is lifted to version 2.
 #![tactic(auto)]
 
 mod adding;
@@ -9,6 +10,7 @@ mod drafting;
 mod fault;
 mod keys;
 mod laws;
+mod lifting;
 mod line_fault;
 mod lookups;
 mod offsets;
@@ -23,7 +25,11 @@ mod words;
 
 pub use builder::Builder;
 pub use fault::BuildFault;
-pub use laws::{drafts_are_images, drafts_are_said, layouts_are_drafts};
+pub use laws::{
+    drafts_are_images, drafts_are_of_version_2, drafts_are_said, layouts_are_drafts,
+    lifted_says_the_layout,
+};
+pub use lifting::lift;
 pub use line_fault::{LineError, LineFault, ReadTextError, TextFault};
 pub use reading::{add_line, read_text, take_head, take_line};
 pub use text_laws::{

@@ -1,11 +1,11 @@
 //! How many entries and words an image has, and where its sections stand.
 ghost use Rattle.std.specs.Prelude.{◌≡◌, ◌≤◌, min};
-ghost use Rattle.mmv_writer.specs.Offsets.{instances_in, counts_of, one_if_some, sections_in, section_offsets, words_in};
+ghost use Rattle.mmv_writer.specs.Offsets.{instance_length, metric_length, instances_in, counts_of, one_if_some, sections_in, section_offsets, words_in};
 
 use crate::tables::StringTable;
 use mmv_layout::{
-    ENTRY_SIZE, HEADER_SIZE, INDOM_SIZE, INSTANCE_SIZE, IndomRow, Layout, METRIC_SIZE, STRING_SIZE,
-    VALUE_SIZE,
+    ENTRY_SIZE, HEADER_SIZE, INDOM_SIZE, IndomRow, Layout, STRING_SIZE, VALUE_SIZE, instance_size,
+    metric_size,
 };
 
 const HEADER_WORDS: u128 = HEADER_SIZE as u128 / 8;
@@ -14,17 +14,14 @@ const ENTRY_WORDS: u128 = ENTRY_SIZE as u128 / 8;
 
 const INDOM_WORDS: u128 = INDOM_SIZE as u128 / 8;
 
-const INSTANCE_WORDS: u128 = INSTANCE_SIZE as u128 / 8;
-
-const METRIC_WORDS: u128 = METRIC_SIZE as u128 / 8;
-
 const VALUE_WORDS: u128 = VALUE_SIZE as u128 / 8;
 
 const STRING_WORDS: u128 = STRING_SIZE as u128 / 8;
 
-/// How many entries each section has.
+/// How many entries each section of an image of a version has.
 #[derive(Clone, Copy)]
 pub struct Counts {
+    pub version: u32,
     pub indoms: u64,
     pub instances: u64,
     pub metrics: u64,
@@ -32,9 +29,10 @@ pub struct Counts {
     pub strings: u64,
 }
 
-/// Where each section stands, in bytes from the image's start.
+/// Where each section of an image of a version stands, in bytes from the image's start.
 #[derive(Clone, Copy)]
 pub struct SectionOffsets {
+    pub version: u32,
     pub indoms: u64,
     pub instances: u64,
     pub metrics: u64,
@@ -79,12 +77,29 @@ pub fn counts_of(draft: &Layout, strings: &StringTable) -> Counts
     ensures { result ≡ record (counts_of draft.now strings.now) { instances = min (instances_in draft.now.indoms) 18446744073709551615 } }
 {
     Counts {
+        version: draft.version,
         indoms: draft.indoms.len() as u64,
         instances: instances_in(draft.indoms.as_slice()),
         metrics: draft.metrics.len() as u64,
         values: draft.values.len() as u64,
         strings: strings.len() as u64,
     }
+}
+
+/// How many words an instance has.
+fn instance_words(version: u32) -> u128
+    ensures value { result ≡ instance_length version }
+    ensures bound { result ≤ 10 }
+{
+    instance_size(version) as u128 / 8
+}
+
+/// How many words a metric has.
+fn metric_words(version: u32) -> u128
+    ensures value { result ≡ metric_length version }
+    ensures bound { result ≤ 13 }
+{
+    metric_size(version) as u128 / 8
 }
 
 /// How many words an image with these counts has, 2^64 - 1 at most.
@@ -94,8 +109,8 @@ pub fn words_in(counts: &Counts) -> u64
     let words = HEADER_WORDS
         + ENTRY_WORDS * sections_in(counts) as u128
         + INDOM_WORDS * counts.indoms as u128
-        + INSTANCE_WORDS * counts.instances as u128
-        + METRIC_WORDS * counts.metrics as u128
+        + instance_words(counts.version) * counts.instances as u128
+        + metric_words(counts.version) * counts.metrics as u128
         + VALUE_WORDS * counts.values as u128
         + STRING_WORDS * counts.strings as u128;
     if words < u64::MAX as u128 {
@@ -112,10 +127,11 @@ pub fn section_offsets(counts: &Counts) -> SectionOffsets
 {
     let indoms = HEADER_SIZE + ENTRY_SIZE * sections_in(counts);
     let instances = indoms + INDOM_SIZE * counts.indoms;
-    let metrics = instances + INSTANCE_SIZE * counts.instances;
-    let values = metrics + METRIC_SIZE * counts.metrics;
+    let metrics = instances + instance_size(counts.version) * counts.instances;
+    let values = metrics + metric_size(counts.version) * counts.metrics;
     let strings = values + VALUE_SIZE * counts.values;
     SectionOffsets {
+        version: counts.version,
         indoms,
         instances,
         metrics,

@@ -7,7 +7,7 @@ ghost use Rattle.mmv_writer.specs.Spelling.{string_offset, help_offset, domain_o
 use crate::lookups::{DomainTable, MetricTable};
 use crate::offsets::SectionOffsets;
 use crate::tables::StringTable;
-use mmv_layout::{Content, INDOM_SIZE, INSTANCE_SIZE, IndomRow, METRIC_SIZE, STRING_SIZE};
+use mmv_layout::{Content, INDOM_SIZE, IndomRow, STRING_SIZE, instance_size, metric_size};
 use pcp_base::Text;
 
 /// Which string is the first that is equal to a text, or the number of strings.
@@ -20,7 +20,7 @@ fn text_index(strings: &StringTable, text: &Text) -> usize
 }
 
 /// The offset of the first string that is equal to a text.
-fn string_offset(offsets: &SectionOffsets, strings: &StringTable, text: &Text) -> u64
+pub fn string_offset(offsets: &SectionOffsets, strings: &StringTable, text: &Text) -> u64
     requires small { AreSmall offsets.now }
     requires count { length strings.now ≤ 65536 }
     ensures { result ≡ string_offset offsets.now strings.now text.now }
@@ -56,7 +56,7 @@ fn instance_offset(offsets: &SectionOffsets, domains: &DomainTable, serial: u32,
     requires member { k ≤ 65536 }
     ensures { result ≡ instance_offset offsets.now domains.now serial k }
 {
-    offsets.instances + INSTANCE_SIZE * (domains.instances_before(serial) + k)
+    offsets.instances + instance_size(offsets.version) * (domains.instances_before(serial) + k)
 }
 
 /// The offset of a domain's first instance, 0 where it has none.
@@ -77,7 +77,7 @@ pub fn metric_offset(offsets: &SectionOffsets, metrics: &MetricTable, item: u32)
     requires count { length metrics.now ≤ 65536 }
     ensures { result ≡ metric_offset offsets.now metrics.now item }
 {
-    offsets.metrics + METRIC_SIZE * metrics.metric_of(item) as u64
+    offsets.metrics + metric_size(offsets.version) * metrics.metric_of(item) as u64
 }
 
 /// The extra field of a content.

@@ -2,21 +2,18 @@
 ghost use Rattle.std.specs.Prelude.{◌≡◌, ◌<◌, ◌&&◌, ◌==◌, ℕ, false, None, bytes_eq, slice_index};
 ghost use Rattle.std.specs.List.{list_any};
 ghost use Rattle.mmv_layout.specs.Entries.{is_serial};
-ghost use Rattle.mmv_writer.specs.Rules.{is_long, is_long_help, header_fault, is_instance_name, is_metric_name, fits_kind, is_long_content, text_fault};
+ghost use Rattle.mmv_writer.specs.Rules.{is_long, is_long_help, header_fault, is_short_name, is_instance_name, is_metric_name, fits_kind, is_long_content, text_fault};
 ghost use Rattle.mmv_writer.specs.Keys.{fits_domain};
 ghost use Rattle.mmv_writer.specs.Draft.{IsStored, IsHelp, IsContent, IsString};
 
 use crate::fault::BuildFault;
 use crate::keys::{DomainKeys, fits_domain};
-use mmv_layout::{Content, MetricRow, ValueRow, is_version};
+use mmv_layout::{Content, MetricRow, ValueRow, is_version, name_room};
 use pcp_base::{Kind, Text, is_name};
 use std::collections::BTreeMap;
 
 /// The longest text of a string, in bytes.
 const MOST_TEXT: usize = 255;
-
-/// The longest name of a metric or an instance, in bytes.
-const MOST_NAME: usize = 63;
 
 /// Whether so many bytes are too long for a string.
 fn are_long(bytes: &[u8]) -> bool
@@ -63,27 +60,37 @@ pub fn header_fault(version: u32, cluster: u32) -> Option<BuildFault>
     }
 }
 
-/// Whether a text can name an instance.
-pub fn is_instance_name(name: &Text) -> bool
-    ensures value { result ≡ is_instance_name name.now }
-    ensures stored { IsStored name.now }
+/// Whether so many bytes aren't too long for a name of a version.
+fn is_short_name(version: u32, bytes: &[u8]) -> bool
+    ensures { result ≡ is_short_name version bytes.now }
 {
-    let length = name.as_slice().len();
-    let is_short = !is_long(name);
-    is_short && length >= 1 && length <= MOST_NAME
+    (bytes.len() as u64) < name_room(version) as u64
 }
 
-/// Whether a text can name a metric.
+/// Whether a text can name an instance.
 #[tactic(auto, using(crate::proofs::Rows::too_long))]
-pub fn is_metric_name(name: &Text) -> bool
-    ensures value { result ≡ is_metric_name name.now }
+pub fn is_instance_name(version: u32, name: &Text) -> bool
+    ensures value { result ≡ is_instance_name version name.now }
     ensures stored { IsStored name.now }
 {
     if is_long(name) {
         return false;
     }
     let bytes = name.as_slice();
-    is_name(bytes) && bytes.len() <= MOST_NAME
+    bytes.len() >= 1 && is_short_name(version, bytes)
+}
+
+/// Whether a text can name a metric.
+#[tactic(auto, using(crate::proofs::Rows::too_long))]
+pub fn is_metric_name(version: u32, name: &Text) -> bool
+    ensures value { result ≡ is_metric_name version name.now }
+    ensures stored { IsStored name.now }
+{
+    if is_long(name) {
+        return false;
+    }
+    let bytes = name.as_slice();
+    is_name(bytes) && is_short_name(version, bytes)
 }
 
 /// Whether a value of a metric of this kind has this content.

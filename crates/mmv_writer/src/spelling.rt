@@ -35,7 +35,7 @@ fn push_sections(
     let domains = DomainTable::of(alloc, indoms)?;
     let items = MetricTable::of(alloc, metrics)?;
     push_domains(out, offsets, strings, &domains, indoms)?;
-    push_instances(out, offsets, &domains, indoms)?;
+    push_instances(out, offsets, strings, &domains, indoms)?;
     push_metrics(out, offsets, strings, metrics)?;
     push_values(
         out,

@@ -4,23 +4,23 @@ ghost use Rattle.std.specs.List.{flat_map};
 ghost use Rattle.std.specs.Int.{w64, from_le_bytes};
 ghost use Rattle.mmv_layout.specs.Fields.{first_words};
 ghost use Rattle.mmv_writer.specs.Offsets.{string_length, instances_in, words_in, AreSmall};
-ghost use Rattle.mmv_writer.specs.Spelling.{halves, header_words, entry_words, contents_words, domain_offset, domain_words, instance_words, serial_word, metric_words, value_field, value_words, domain_section, instance_section, metric_section, value_section, string_section};
+ghost use Rattle.mmv_writer.specs.Spelling.{halves, header_words, entry_words, contents_words, domain_offset, domain_words, name_words, instance_words, serial_word, metric_words, value_field, value_words, domain_section, instance_section, metric_section, value_section, string_section};
 
 use crate::lookups::{DomainTable, MetricTable};
 use crate::offsets::{Counts, SectionOffsets};
 use crate::references::{
     domain_offset, extra_field, first_instance, help_offset, instance_field, metric_offset,
+    string_offset,
 };
 use crate::tables::StringTable;
 use byteorder::{ByteOrder, LittleEndian};
-use mmv_layout::{Content, IndomRow, Layout, MetricRow, NAME_WIDTH, STRING_SIZE, ValueRow};
+use mmv_layout::{
+    Content, IndomRow, Layout, MetricRow, STRING_SIZE, ValueRow, has_inline_names, name_width,
+};
 use pcp_base::{NoMemory, Text};
 
 /// `MMV` and a zero byte, the low byte first.
 const MAGIC: u32 = 0x0056_4d4d;
-
-/// How many words a name has.
-const NAME_WORDS: usize = NAME_WIDTH as usize / 8;
 
 /// How many words a string has.
 const STRING_WORDS: usize = STRING_SIZE as usize / 8;
@@ -158,22 +158,57 @@ pub fn push_domains(
     Ok(())
 }
 
+/// Writes a name field: the name, or the offset of its string.
+#[tactic(auto, unfolding(crate::specs::Spelling::name_words))]
+fn push_name(
+    out: &mut Vec<u64>,
+    offsets: &SectionOffsets,
+    strings: &StringTable,
+    name: &Text,
+) -> Result<(), NoMemory>
+    requires small { AreSmall offsets.now }
+    requires strings { length strings.now ≤ 65536 }
+    ensures { OnOk result (out.new.items ≡ out.old.items ++ name_words offsets.now strings.now name.now) }
+{
+    if has_inline_names(offsets.version) {
+        return push_text(out, name, name_width(offsets.version) as usize / 8);
+    }
+    out.push(string_offset(offsets, strings, name))?;
+    Ok(())
+}
+
 /// Writes an instance of the domain at an offset.
 #[tactic(auto, unfolding(crate::specs::Spelling::instance_words))]
-fn push_instance(out: &mut Vec<u64>, domain: u64, instance: &(i32, Text)) -> Result<(), NoMemory>
-    ensures { OnOk result (out.new.items ≡ out.old.items ++ instance_words domain instance.now) }
+fn push_instance(
+    out: &mut Vec<u64>,
+    offsets: &SectionOffsets,
+    strings: &StringTable,
+    domain: u64,
+    instance: &(i32, Text),
+) -> Result<(), NoMemory>
+    requires small { AreSmall offsets.now }
+    requires strings { length strings.now ≤ 65536 }
+    ensures { OnOk result (out.new.items ≡ out.old.items ++ instance_words offsets.now strings.now domain instance.now) }
 {
     out.extend_from_slice(&[domain, halves(0, instance.0.cast_unsigned())])?;
-    push_text(out, &instance.1, NAME_WORDS)?;
+    push_name(out, offsets, strings, &instance.1)?;
     Ok(())
 }
 
 /// Writes the instances of the domain at an offset.
-fn push_members(out: &mut Vec<u64>, domain: u64, instances: &[(i32, Text)]) -> Result<(), NoMemory>
-    ensures { OnOk result (out.new.items ≡ out.old.items ++ flat_map (λ instance. instance_words domain instance) instances.now) }
+fn push_members(
+    out: &mut Vec<u64>,
+    offsets: &SectionOffsets,
+    strings: &StringTable,
+    domain: u64,
+    instances: &[(i32, Text)],
+) -> Result<(), NoMemory>
+    requires small { AreSmall offsets.now }
+    requires strings { length strings.now ≤ 65536 }
+    ensures { OnOk result (out.new.items ≡ out.old.items ++ flat_map (λ instance. instance_words offsets.now strings.now domain instance) instances.now) }
 {
     for instance in instances {
-        push_instance(out, domain, instance)?;
+        push_instance(out, offsets, strings, domain, instance)?;
     }
     Ok(())
 }
@@ -182,15 +217,17 @@ fn push_members(out: &mut Vec<u64>, domain: u64, instances: &[(i32, Text)]) -> R
 fn push_row(
     out: &mut Vec<u64>,
     offsets: &SectionOffsets,
+    strings: &StringTable,
     domains: &DomainTable,
     row: &IndomRow,
 ) -> Result<(), NoMemory>
     requires small { AreSmall offsets.now }
+    requires strings { length strings.now ≤ 65536 }
     requires count { length domains.now ≤ 65536 }
-    ensures { OnOk result (out.new.items ≡ out.old.items ++ flat_map (λ instance. instance_words (domain_offset offsets.now domains.now row.now.serial) instance) row.now.instances) }
+    ensures { OnOk result (out.new.items ≡ out.old.items ++ flat_map (λ instance. instance_words offsets.now strings.now (domain_offset offsets.now domains.now row.now.serial) instance) row.now.instances) }
 {
     let domain = domain_offset(offsets, domains, row.serial);
-    push_members(out, domain, row.instances.as_slice())?;
+    push_members(out, offsets, strings, domain, row.instances.as_slice())?;
     Ok(())
 }
 
@@ -199,16 +236,18 @@ fn push_row(
 pub fn push_instances(
     out: &mut Vec<u64>,
     offsets: &SectionOffsets,
+    strings: &StringTable,
     domains: &DomainTable,
     indoms: &[IndomRow],
 ) -> Result<(), NoMemory>
     requires small { AreSmall offsets.now }
+    requires strings { length strings.now ≤ 65536 }
     requires same { domains.now ≡ indoms.now }
     requires count { length indoms.now ≤ 65536 }
-    ensures { OnOk result (out.new.items ≡ out.old.items ++ instance_section offsets.now indoms.now) }
+    ensures { OnOk result (out.new.items ≡ out.old.items ++ instance_section offsets.now strings.now indoms.now) }
 {
     for row in indoms {
-        push_row(out, offsets, domains, row)?;
+        push_row(out, offsets, strings, domains, row)?;
     }
     Ok(())
 }
@@ -235,7 +274,7 @@ fn push_metric(
     requires strings { length strings.now ≤ 65536 }
     ensures { OnOk result (out.new.items ≡ out.old.items ++ metric_words offsets.now strings.now row.now) }
 {
-    push_text(out, &row.name, NAME_WORDS)?;
+    push_name(out, offsets, strings, &row.name)?;
     out.extend_from_slice(&[
         halves(row.item, row.kind.code()),
         halves(row.semantics.code(), row.units.word()),

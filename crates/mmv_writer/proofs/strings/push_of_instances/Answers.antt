@@ -1,0 +1,12 @@
+-- The texts of one row more.
+use Rattle.std.proofs.Common.{◌++◌, ◌∙◌, ap, arith}
+use Rattle.std.specs.List.{flat_map}
+use Rattle.mmv_writer.specs.Spelling.{texts_of_name, texts_of_instances}
+use Rattle.mmv_writer.specs.Tables.{texts_behind}
+use Rattle.mmv_writer.proofs.Missing.{written_more}
+use Rattle.mmv_writer.proofs.strings.push_of_instances.Goals as goal
+
+pub loop-row-preserved : goal.loop-row-preserved
+loop-row-preserved c =
+    written_more (texts_of_instances c.args.version) (texts_behind c.args.texts.now.items) (texts_behind c.loop-row.texts.items) (texts_behind c.push_names.new.texts.items) c.args.rows.now c.loop-row.row-index c.row-item.result (omega arith) c.row-item.is c.loop-row.invariant
+    (c.in_ok-push_names.ensures ∙ ap (λ instances. texts_behind c.loop-row.texts.items ++ flat_map (λ instance. texts_of_name c.args.version instance.1) instances) c.as_slice.ensures)
