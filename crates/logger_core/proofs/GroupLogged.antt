@@ -11,7 +11,7 @@ use Rattle.archive_meta.specs.declared.facts.Facts.{Facts}
 use Rattle.pcp_outside.specs.Causes.{Rose}
 use Rattle.logger_core.specs.declared.ends.Ends.{Ends}
 use Rattle.logger_core.specs.declared.fault.LogFault.{LogFault}
-use Rattle.logger_core.specs.declared.fault.LogFault.TheVariants.{Closed, Large, NotLater, Changed, Full, NoMemory, DiskFault}
+use Rattle.logger_core.specs.declared.fault.LogFault.TheVariants.{Closed, Live, Large, NotLater, Changed, Full, NoMemory, DiskFault}
 use Rattle.logger_core.specs.declared.groups.Group.{Group}
 use Rattle.logger_core.specs.declared.groups.Judged.{Judged}
 use Rattle.logger_core.specs.declared.groups.Run.{Run}
@@ -30,6 +30,7 @@ pub settled_runs : (records : List MetaRecord) (e : Ends) (limit : ℕ) (all : L
     → AreRuns records e limit group.runs (held_of refused all) now group.planned
 settled_runs records e limit all now group None h = h
 settled_runs records e limit all now group (Some (k, Closed)) h = absurd h
+settled_runs records e limit all now group (Some (k, Live volume)) h = absurd h
 settled_runs records e limit all now group (Some (k, Large bytes)) h = h.runs
 settled_runs records e limit all now group (Some (k, NotLater last)) h = h.runs
 settled_runs records e limit all now group (Some (k, Changed pmid)) h = h.runs
@@ -131,6 +132,7 @@ ok_always (Err e) P p = tt
 leaves_first : (m : Meant) (old new : Kept) (records now : List MetaRecord) (e : Ends) (limit : ℕ) (group : List Told) (g : Group) (held : Holdings) (k : ℕ) (fault : LogFault) → IsSettledSo records e limit group now g k fault → AreLogged m old new (take k group) held
     → LeavesFirst m old new group held k fault
 leaves_first m old new records now e limit group g held k Closed h w = absurd h
+leaves_first m old new records now e limit group g held k (Live volume) h w = absurd h
 leaves_first m old new records now e limit group g held k (Large bytes) h w = w
 leaves_first m old new records now e limit group g held k (NotLater last) h w = w
 leaves_first m old new records now e limit group g held k (Changed pmid) h w = w
@@ -219,6 +221,7 @@ module _ (old now inside : Kept) (group : List Told) (j : Judged) (p : IsJudgedB
 
   pub refused_answer : (ends : Ends) (before after : ℕ) → ends ≡ j.group.planned → after ≡ before → (k : ℕ) (fault : LogFault) → IsSettledSo old.records old.ends old.limit group now.records j.group k fault → GroupMayAnswer old (shown ends) group before after k fault
   refused_answer ends before after planned quiet k Closed h = absurd h
+  refused_answer ends before after planned quiet k (Live volume) h = absurd h
   refused_answer ends before after planned quiet k (Large bytes) h = refused_at ends before after k (Large bytes) planned quiet h
   refused_answer ends before after planned quiet k (NotLater last) h = refused_at ends before after k (NotLater last) planned quiet h
   refused_answer ends before after planned quiet k (Changed pmid) h = refused_at ends before after k (Changed pmid) planned quiet h
@@ -266,6 +269,7 @@ module _ (old now inside : Kept) (group : List Told) (j : Judged) (p : IsJudgedB
 
 pub judge_answer : (old now : Kept) (group : List Told) (before k : ℕ) (fault : LogFault) → JudgeMayAnswer old now k fault → GroupMayAnswer old now group before before k fault
 judge_answer old now group before k Closed h = h
+judge_answer old now group before k (Live volume) h = absurd h
 judge_answer old now group before k (Large bytes) h = absurd h
 judge_answer old now group before k (NotLater last) h = absurd h
 judge_answer old now group before k (Changed pmid) h = absurd h
@@ -275,6 +279,7 @@ judge_answer old now group before k DiskFault h = absurd h
 
 pub judge_leaves : (m : Meant) (old now : Kept) (group : List Told) (held : Holdings) (k : ℕ) (fault : LogFault) → IsLogger m old held → JudgeMayAnswer old now k fault → LeavesFirst m old now group held k fault
 judge_leaves m old now group held k Closed l h = tt
+judge_leaves m old now group held k (Live volume) l h = absurd h
 judge_leaves m old now group held k (Large bytes) l h = absurd h
 judge_leaves m old now group held k (NotLater last) l h = absurd h
 judge_leaves m old now group held k (Changed pmid) l h = absurd h
@@ -293,6 +298,7 @@ one_is_logged m old now answer facts held a =
 
 settled_of : (records : List MetaRecord) (e : Ends) (limit : ℕ) (all : List Told) (now : List MetaRecord) (group : Group) (k : ℕ) (fault : LogFault) → fault ≢ NoMemory → IsRefusedAfter records e limit [] all now group k fault → IsSettledSo records e limit all now group k fault
 settled_of records e limit all now group k Closed other h = h
+settled_of records e limit all now group k (Live volume) other h = h
 settled_of records e limit all now group k (Large bytes) other h = h
 settled_of records e limit all now group k (NotLater last) other h = h
 settled_of records e limit all now group k (Changed pmid) other h = h

@@ -18,7 +18,7 @@ use Rattle.archive_meta.specs.Records.{Adds}
 use Rattle.archive_meta.specs.Enough.{AreEnough}
 use Rattle.logger_core.specs.declared.ends.Ends.{Ends}
 use Rattle.logger_core.specs.declared.fault.LogFault.{LogFault}
-use Rattle.logger_core.specs.declared.fault.LogFault.TheVariants.{Closed, Large, NotLater, Changed, Full, NoMemory, DiskFault}
+use Rattle.logger_core.specs.declared.fault.LogFault.TheVariants.{Closed, Live, Large, NotLater, Changed, Full, NoMemory, DiskFault}
 use Rattle.logger_core.specs.declared.groups.Group.{Group}
 use Rattle.logger_core.specs.declared.groups.Run.{Run}
 use Rattle.logger_core.specs.declared.preparing.Made.{Made}
@@ -296,6 +296,7 @@ refused_first records e limit done all rest known now old group g fault is runs 
 
     by : (f : LogFault) → IsRefused known old.planned limit g.0 g.1 f → group ≡ old → IsRefusedAfter records e limit done all now group 0 f
     by Closed r k = absurd r
+    by (Live volume) r k = absurd r
     by (Large bytes) r k = held (Large bytes) r k
     by (NotLater last) r k = held (NotLater last) r k
     by (Changed pmid) r k = held (Changed pmid) r k
@@ -318,6 +319,7 @@ refused_later records e limit done all rest now group g k n fault is next h = by
 
     by : (f : LogFault) → IsRefusedAfter records e limit (done ++ g ∷ []) rest now group k f → IsRefusedAfter records e limit done all now group n f
     by Closed r = absurd r
+    by (Live volume) r = absurd r
     by (Large bytes) r = held (Large bytes) r
     by (NotLater last) r = held (NotLater last) r
     by (Changed pmid) r = held (Changed pmid) r

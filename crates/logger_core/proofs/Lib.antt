@@ -6,6 +6,7 @@ pub mod AtMost
 pub mod Begun
 pub mod Calls
 pub mod Dues
+pub mod Emptied
 pub mod EntryPut
 pub mod Greatest
 pub mod Grouped
@@ -29,6 +30,7 @@ pub mod Recovered
 pub mod Refused
 pub mod Reopened
 pub mod Rests
+pub mod Retired
 pub mod RunJoined
 pub mod RunKept
 pub mod RunPut
@@ -39,3 +41,6 @@ pub mod Switched
 pub mod Timely
 pub mod Turned
 pub mod Whole
+pub mod Without
+pub mod WithoutRecovered
+pub mod WithoutSound

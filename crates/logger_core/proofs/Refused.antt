@@ -9,7 +9,7 @@ use Rattle.archive_meta.specs.Facts.{FitSets}
 use Rattle.archive_meta.specs.Missing.{AreMade, framed_records}
 use Rattle.logger_core.specs.declared.ends.Ends.{Ends}
 use Rattle.logger_core.specs.declared.fault.LogFault.{LogFault}
-use Rattle.logger_core.specs.declared.fault.LogFault.TheVariants.{Closed, Large, NotLater, Changed, Full, NoMemory, DiskFault}
+use Rattle.logger_core.specs.declared.fault.LogFault.TheVariants.{Closed, Live, Large, NotLater, Changed, Full, NoMemory, DiskFault}
 use Rattle.logger_core.specs.declared.preparing.Made.{Made}
 use Rattle.logger_core.specs.Going.{AreSmall}
 use Rattle.logger_core.specs.Logging.{IsLater, IsRefused, IsMadeOf, IsLoggable, IsFull, HasPlace, PrepareMayAnswer, LogMayAnswer}
@@ -20,6 +20,7 @@ use Rattle.logger_core.specs.Writing.{IsBounded}
 module _ (records : List MetaRecord) (ends : Ends) (limit : ℕ) (answer : PmResult) (facts : Facts) where
   pub by_length : (e : LogFault) → IsLengthFault answer e → IsRefused records ends limit answer facts e
   by_length Closed h = absurd h
+  by_length (Live volume) h = absurd h
   by_length (Large bytes) h = inl h
   by_length (NotLater last) h = absurd h
   by_length (Changed pmid) h = absurd h
@@ -30,6 +31,7 @@ module _ (records : List MetaRecord) (ends : Ends) (limit : ℕ) (answer : PmRes
   module _ (few : payload_length answer ≤ 16777208) where
     pub by_metadata : (e : LogFault) → IsMetadataFault records answer facts e → IsRefused records ends limit answer facts e
     by_metadata Closed h = absurd h
+    by_metadata (Live volume) h = absurd h
     by_metadata (Large bytes) h = inr (few, h)
     by_metadata (NotLater last) h = absurd h
     by_metadata (Changed pmid) h = absurd h
@@ -40,6 +42,7 @@ module _ (records : List MetaRecord) (ends : Ends) (limit : ℕ) (answer : PmRes
     module _ (bytes : List ℕ) (made : AreMade records facts answer bytes) where
       pub by_stamp : (e : LogFault) → IsStampFault ends.greatest answer.stamp e → IsRefused records ends limit answer facts e
       by_stamp Closed h = absurd h
+      by_stamp (Live volume) h = absurd h
       by_stamp (Large n) h = absurd h
       by_stamp (NotLater last) h = (few, (made.missing, made.needed, made.fit), h.0, h.1)
       by_stamp (Changed pmid) h = absurd h
@@ -50,6 +53,7 @@ module _ (records : List MetaRecord) (ends : Ends) (limit : ℕ) (answer : PmRes
       module _ (later : IsLater ends.greatest answer.stamp) where
         pub by_change : (e : LogFault) → IsChangeFault records answer facts e → IsRefused records ends limit answer facts e
         by_change Closed h = absurd h
+        by_change (Live volume) h = absurd h
         by_change (Large n) h = absurd h
         by_change (NotLater last) h = absurd h
         by_change (Changed pmid) h = (few, (made.missing, made.needed, made.fit), later, h)
@@ -59,6 +63,7 @@ module _ (records : List MetaRecord) (ends : Ends) (limit : ℕ) (answer : PmRes
 
         pub by_room : FitSets records facts.metrics answer.sets → (size : ℕ) → size ≡ payload_length answer + 8 → (e : LogFault) → IsRoomFault ends limit (length bytes) size e → IsRefused records ends limit answer facts e
         by_room fit size is Closed h = absurd h
+        by_room fit size is (Live volume) h = absurd h
         by_room fit size is (Large n) h = absurd h
         by_room fit size is (NotLater last) h = absurd h
         by_room fit size is (Changed pmid) h = absurd h
@@ -100,6 +105,7 @@ module _ (records : List MetaRecord) (ends : Ends) (limit : ℕ) (answer : PmRes
 
 pub prepare_refused : (old : Kept) (answer : PmResult) (facts : Facts) → old.closed ≡ false → (e : LogFault) → IsRefused old.records old.ends old.limit answer facts e → PrepareMayAnswer old old answer facts e
 prepare_refused old answer facts open_ Closed h = absurd h
+prepare_refused old answer facts open_ (Live volume) h = absurd h
 prepare_refused old answer facts open_ (Large bytes) h = (open_, refl, h)
 prepare_refused old answer facts open_ (NotLater last) h = (open_, refl, h)
 prepare_refused old answer facts open_ (Changed pmid) h = (open_, refl, h)
@@ -109,6 +115,7 @@ prepare_refused old answer facts open_ DiskFault h = absurd h
 
 pub log_refused : (old new : Kept) (answer : PmResult) (facts : Facts) (before after : ℕ) (e : LogFault) → PrepareMayAnswer old new answer facts e → LogMayAnswer old new answer facts before after e
 log_refused old new answer facts before after Closed h = h
+log_refused old new answer facts before after (Live volume) h = absurd h
 log_refused old new answer facts before after (Large bytes) h = h
 log_refused old new answer facts before after (NotLater last) h = h
 log_refused old new answer facts before after (Changed pmid) h = h

@@ -16,7 +16,7 @@ use Rattle.archive_meta.specs.Enough.{AreEnough}
 use Rattle.archive_meta.specs.Missing.{framed_records}
 use Rattle.logger_core.specs.declared.ends.Ends.{Ends}
 use Rattle.logger_core.specs.declared.fault.LogFault.{LogFault}
-use Rattle.logger_core.specs.declared.fault.LogFault.TheVariants.{Closed, Large, NotLater, Changed, Full, NoMemory, DiskFault}
+use Rattle.logger_core.specs.declared.fault.LogFault.TheVariants.{Closed, Live, Large, NotLater, Changed, Full, NoMemory, DiskFault}
 use Rattle.logger_core.specs.Going.{HoldsNoMore, acknowledged_before}
 use Rattle.logger_core.specs.Logging.{IsLogged, IsLoggable, IsRefused, closed_with}
 use Rattle.logger_core.specs.LogSteps.{LogStep, base_number, crosses, entries_put}
@@ -97,6 +97,7 @@ pub record BeginsRun (records : List MetaRecord) (e : Ends) (limit : ℕ) (group
 -- Which refusal comes with which number, and what it leaves of the logger.
 abbrev pub GroupMayAnswer : Kept → Kept → List Told → ℕ → ℕ → ℕ → LogFault → Type 0
 GroupMayAnswer old now group before after k Closed = (k ≡ 0) × (old.closed ≡ true) × (now ≡ old)
+GroupMayAnswer old now group before after k (Live volume) = ⊥
 GroupMayAnswer old now group before after k (Large bytes) = IsRefusedAt old now group before after k (Large bytes)
 GroupMayAnswer old now group before after k (NotLater last) = IsRefusedAt old now group before after k (NotLater last)
 GroupMayAnswer old now group before after k (Changed pmid) = IsRefusedAt old now group before after k (Changed pmid)
@@ -135,6 +136,7 @@ pub record AreWritten (m : Meant) (number limit : ℕ) (group : List Told) (k : 
 -- What a refusal leaves: those before the refused one, logged; or where the disk failed, written.
 abbrev pub LeavesFirst : Meant → Kept → Kept → List Told → Holdings → ℕ → LogFault → Type 0
 LeavesFirst m old now group held k Closed = Unit {0}
+LeavesFirst m old now group held k (Live volume) = ⊥
 LeavesFirst m old now group held k (Large bytes) = AreLogged m old now (take k group) held
 LeavesFirst m old now group held k (NotLater last) = AreLogged m old now (take k group) held
 LeavesFirst m old now group held k (Changed pmid) = AreLogged m old now (take k group) held

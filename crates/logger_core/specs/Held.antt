@@ -14,7 +14,7 @@ use Rattle.archive_meta.specs.declared.facts.Facts.{Facts}
 use Rattle.archive_meta.specs.Records.{Adds}
 use Rattle.logger_core.specs.declared.ends.Ends.{Ends}
 use Rattle.logger_core.specs.declared.fault.LogFault.{LogFault}
-use Rattle.logger_core.specs.declared.fault.LogFault.TheVariants.{Closed, Large, NotLater, Changed, Full, NoMemory, DiskFault}
+use Rattle.logger_core.specs.declared.fault.LogFault.TheVariants.{Closed, Live, Large, NotLater, Changed, Full, NoMemory, DiskFault}
 use Rattle.logger_core.specs.declared.groups.Group.{Group}
 use Rattle.logger_core.specs.declared.groups.Judged.{Judged}
 use Rattle.logger_core.specs.declared.groups.Run.{Run}
@@ -183,6 +183,7 @@ pub record AreHeldBefore (records : List MetaRecord) (e : Ends) (limit : ℕ) (d
 -- Where memory ran out nothing is said of what is held, and the metadata begin with those that were known.
 abbrev pub IsRefusedAfter : List MetaRecord → Ends → ℕ → List Told → List Told → List MetaRecord → Group → ℕ → LogFault → Type 0
 IsRefusedAfter records e limit done all now group k Closed = ⊥
+IsRefusedAfter records e limit done all now group k (Live volume) = ⊥
 IsRefusedAfter records e limit done all now group k (Large bytes) = AreHeldBefore records e limit done all now group k (Large bytes)
 IsRefusedAfter records e limit done all now group k (NotLater last) = AreHeldBefore records e limit done all now group k (NotLater last)
 IsRefusedAfter records e limit done all now group k (Changed pmid) = AreHeldBefore records e limit done all now group k (Changed pmid)
@@ -198,6 +199,7 @@ held_of (Some r) all = take r.0 all
 -- as above, and memory sufficed
 abbrev pub IsSettledSo : List MetaRecord → Ends → ℕ → List Told → List MetaRecord → Group → ℕ → LogFault → Type 0
 IsSettledSo records e limit all now group k Closed = ⊥
+IsSettledSo records e limit all now group k (Live volume) = ⊥
 IsSettledSo records e limit all now group k (Large bytes) = AreHeldBefore records e limit [] all now group k (Large bytes)
 IsSettledSo records e limit all now group k (NotLater last) = AreHeldBefore records e limit [] all now group k (NotLater last)
 IsSettledSo records e limit all now group k (Changed pmid) = AreHeldBefore records e limit [] all now group k (Changed pmid)
@@ -218,6 +220,7 @@ pub record IsJudgedBy (old now : Kept) (all : List Told) (judged : Judged) : Typ
 -- or it couldn't, and is as it was
 abbrev pub JudgeMayAnswer : Kept → Kept → ℕ → LogFault → Type 0
 JudgeMayAnswer old now k Closed = (k ≡ 0) × (old.closed ≡ true) × (now ≡ old)
+JudgeMayAnswer old now k (Live volume) = ⊥
 JudgeMayAnswer old now k (Large bytes) = ⊥
 JudgeMayAnswer old now k (NotLater last) = ⊥
 JudgeMayAnswer old now k (Changed pmid) = ⊥

@@ -14,6 +14,7 @@ pub mod Preparing
 pub mod Recovering
 pub mod Refusals
 pub mod Reopening
+pub mod Retiring
 pub mod Runs
 pub mod Steps
 pub mod Writing

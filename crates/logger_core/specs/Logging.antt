@@ -18,7 +18,7 @@ use Rattle.archive_meta.specs.Records.{Adds}
 use Rattle.archive_meta.specs.Missing.{AreMissing, AreMade, IsRecordsFault, framed_records, large_length}
 use Rattle.logger_core.specs.declared.ends.Ends.{Ends}
 use Rattle.logger_core.specs.declared.fault.LogFault.{LogFault}
-use Rattle.logger_core.specs.declared.fault.LogFault.TheVariants.{Closed, Large, NotLater, Changed, Full, NoMemory, DiskFault}
+use Rattle.logger_core.specs.declared.fault.LogFault.TheVariants.{Closed, Live, Large, NotLater, Changed, Full, NoMemory, DiskFault}
 use Rattle.logger_core.specs.declared.preparing.Made.{Made}
 use Rattle.logger_core.specs.Going.{acknowledged_before}
 use Rattle.logger_core.specs.LogSteps.{LogStep, crosses}
@@ -54,6 +54,7 @@ HasNoPlace records e limit answer facts file bytes =
 -- Which refusal comes of a logger that is open: each where nothing that is looked at before it refuses.
 abbrev pub IsRefused : List MetaRecord → Ends → ℕ → PmResult → Facts → LogFault → Type 0
 IsRefused records e limit answer facts Closed = ⊥
+IsRefused records e limit answer facts (Live volume) = ⊥
 IsRefused records e limit answer facts (Large bytes) =
     ((16777208 < payload_length answer) × (bytes ≡ min (payload_length answer + 8) 18446744073709551615))
     ⊎ ((payload_length answer ≤ 16777208) × IsRecordsFault records facts answer (TooLarge bytes))
@@ -105,6 +106,7 @@ pub record IsLoggable (records : List MetaRecord) (e : Ends) (limit : ℕ) (answ
 -- Which refusal comes before the first write: each leaves the logger as it was.
 abbrev pub PrepareMayAnswer : Kept → Kept → PmResult → Facts → LogFault → Type 0
 PrepareMayAnswer old new answer facts Closed = (old.closed ≡ true) × (new ≡ old)
+PrepareMayAnswer old new answer facts (Live volume) = ⊥
 PrepareMayAnswer old new answer facts (Large bytes) = (old.closed ≡ false) × (new ≡ old) × IsRefused old.records old.ends old.limit answer facts (Large bytes)
 PrepareMayAnswer old new answer facts (NotLater last) = (old.closed ≡ false) × (new ≡ old) × IsRefused old.records old.ends old.limit answer facts (NotLater last)
 PrepareMayAnswer old new answer facts (Changed pmid) = (old.closed ≡ false) × (new ≡ old) × IsRefused old.records old.ends old.limit answer facts (Changed pmid)
@@ -126,6 +128,7 @@ closed_with l records = record { label = l.label; records = records; ends = l.en
 -- Which refusal `log` answers, and what it leaves: all but a fault of the disk leave the logger as it was.
 abbrev pub LogMayAnswer : Kept → Kept → PmResult → Facts → ℕ → ℕ → LogFault → Type 0
 LogMayAnswer old new answer facts before after Closed = PrepareMayAnswer old new answer facts Closed
+LogMayAnswer old new answer facts before after (Live volume) = ⊥
 LogMayAnswer old new answer facts before after (Large bytes) = PrepareMayAnswer old new answer facts (Large bytes)
 LogMayAnswer old new answer facts before after (NotLater last) = PrepareMayAnswer old new answer facts (NotLater last)
 LogMayAnswer old new answer facts before after (Changed pmid) = PrepareMayAnswer old new answer facts (Changed pmid)

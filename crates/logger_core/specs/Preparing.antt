@@ -11,12 +11,13 @@ use Rattle.archive_meta.specs.Facts.{IsFirstChange}
 use Rattle.archive_meta.specs.Missing.{IsRecordsFault}
 use Rattle.logger_core.specs.declared.ends.Ends.{Ends}
 use Rattle.logger_core.specs.declared.fault.LogFault.{LogFault}
-use Rattle.logger_core.specs.declared.fault.LogFault.TheVariants.{Closed, Large, NotLater, Changed, Full, NoMemory, DiskFault}
+use Rattle.logger_core.specs.declared.fault.LogFault.TheVariants.{Closed, Live, Large, NotLater, Changed, Full, NoMemory, DiskFault}
 use Rattle.logger_core.specs.Logging.{IsFull}
 
 -- the framed record is too long
 abbrev pub IsLengthFault : PmResult → LogFault → Type 0
 IsLengthFault answer Closed = ⊥
+IsLengthFault answer (Live volume) = ⊥
 IsLengthFault answer (Large bytes) = (16777208 < payload_length answer) × (bytes ≡ min (payload_length answer + 8) 18446744073709551615)
 IsLengthFault answer (NotLater last) = ⊥
 IsLengthFault answer (Changed pmid) = ⊥
@@ -27,6 +28,7 @@ IsLengthFault answer DiskFault = ⊥
 -- a record of Meta that is missing is too long, or memory was refused
 abbrev pub IsMetadataFault : List MetaRecord → PmResult → Facts → LogFault → Type 0
 IsMetadataFault records answer facts Closed = ⊥
+IsMetadataFault records answer facts (Live volume) = ⊥
 IsMetadataFault records answer facts (Large bytes) = IsRecordsFault records facts answer (TooLarge bytes)
 IsMetadataFault records answer facts (NotLater last) = ⊥
 IsMetadataFault records answer facts (Changed pmid) = ⊥
@@ -37,6 +39,7 @@ IsMetadataFault records answer facts DiskFault = ⊥
 -- the moment isn't after the greatest stamp
 abbrev pub IsStampFault : Option Moment → Moment → LogFault → Type 0
 IsStampFault greatest t Closed = ⊥
+IsStampFault greatest t (Live volume) = ⊥
 IsStampFault greatest t (Large bytes) = ⊥
 IsStampFault greatest t (NotLater last) = (greatest ≡ Some last) × (microseconds t ≤ microseconds last)
 IsStampFault greatest t (Changed pmid) = ⊥
@@ -47,6 +50,7 @@ IsStampFault greatest t DiskFault = ⊥
 -- a fact isn't what is kept
 abbrev pub IsChangeFault : List MetaRecord → PmResult → Facts → LogFault → Type 0
 IsChangeFault records answer facts Closed = ⊥
+IsChangeFault records answer facts (Live volume) = ⊥
 IsChangeFault records answer facts (Large bytes) = ⊥
 IsChangeFault records answer facts (NotLater last) = ⊥
 IsChangeFault records answer facts (Changed pmid) = (change : Change) × IsFirstChange records facts.metrics answer.sets change × (pmid ≡ change.pmid)
@@ -57,6 +61,7 @@ IsChangeFault records answer facts DiskFault = ⊥
 -- a file has no place
 abbrev pub IsRoomFault : Ends → ℕ → ℕ → ℕ → LogFault → Type 0
 IsRoomFault e limit records record_length Closed = ⊥
+IsRoomFault e limit records record_length (Live volume) = ⊥
 IsRoomFault e limit records record_length (Large bytes) = ⊥
 IsRoomFault e limit records record_length (NotLater last) = ⊥
 IsRoomFault e limit records record_length (Changed pmid) = ⊥

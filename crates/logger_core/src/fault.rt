@@ -11,10 +11,14 @@ pub enum LogFault {
     /// An earlier call of this logger answered `DiskFault`.
     #[error("an earlier call failed")]
     Closed,
+    /// The volume that is written, which has this number, would be retired. It comes from `Logger::retire` alone.
+    #[error("volume {volume} is the one that is written")]
+    Live { volume: u32 },
     /// The framed record, or else a record of Meta that is missing for it, would be longer than 16,777,216 bytes.
     #[error("a record would be {bytes} bytes long")]
     Large { bytes: u64 },
     /// The result isn't stamped after every item, every instance domain and every entry of the index; this is the greatest stamp.
+    /// What was retired counts.
     #[error("the result isn't stamped after all that stands")]
     NotLater { last: Stamp },
     /// A metric is described otherwise than before, or its name isn't the first one kept.

@@ -258,6 +258,7 @@ pub(crate) fn is_memory(fault: &LogFault) -> bool
     match fault {
         LogFault::NoMemory => true,
         LogFault::Closed
+        | LogFault::Live { .. }
         | LogFault::Large { .. }
         | LogFault::NotLater { .. }
         | LogFault::Changed { .. }

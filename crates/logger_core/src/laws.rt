@@ -2,6 +2,7 @@
 ghost use Rattle.logger_core.specs.Recovering.{SurvivorsAreRecovered};
 ghost use Rattle.logger_core.specs.Grouping.{GroupOfOneIsLogged};
 ghost use Rattle.logger_core.specs.Holding.{LoggerHoldsNothing, HoldingNothingIsALogger};
+ghost use Rattle.logger_core.specs.Retiring.{RetiredIsRead, RetiredIsRecovered, RetiredItemsAreFirst, RetiringGoesOn};
 ghost use Rattle.logger_core.specs.Meant.{GreatestIsGiven};
 ghost use Rattle.logger_core.specs.Steps.{GivenIsGreatest};
 ghost use Rattle.logger_core.specs.Laws.{KeptFilesSurvive, NearerIsKept, SureIsAcknowledged, SureIsKnown, ItemIsAnnounced, RecordsAreAnnounced, LaterRecordsDescribe, EntryIsAnnounced, VolumeIsAnnounced, WholeIsKept, RecoveredIsWhole};
@@ -92,4 +93,24 @@ pub fn given_is_greatest()
 /// While no item of a logger's archive is gone its greatest stamp is as the files give it.
 pub fn greatest_is_given()
     ensures { GreatestIsGiven }
+{}
+
+/// Where a volume that isn't retired has its label, what is left without the retired ones is an archive, and sound where it was.
+pub fn retired_is_read()
+    ensures { RetiredIsRead }
+{}
+
+/// Recovery of what is left leaves what recovery leaves of the whole, with the same volumes retired.
+pub fn retired_is_recovered()
+    ensures { RetiredIsRecovered }
+{}
+
+/// The items that are left stand behind those of the retired volumes.
+pub fn retired_items_are_first()
+    ensures { RetiredItemsAreFirst }
+{}
+
+/// A retirement that was stopped and is made again leaves what one leaves that wasn't.
+pub fn retiring_goes_on()
+    ensures { RetiringGoesOn }
 {}

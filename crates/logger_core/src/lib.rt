@@ -17,6 +17,7 @@ mod logging;
 mod opening;
 mod planning;
 mod preparing;
+mod retiring;
 mod running;
 mod switching;
 mod writing;
@@ -27,6 +28,7 @@ pub use laws::{
     entry_is_announced, given_is_greatest, greatest_is_given, group_of_one_is_logged,
     holding_nothing_is_a_logger, item_is_announced, kept_files_survive, later_records_describe,
     logger_holds_nothing, nearer_is_kept, records_are_announced, recovered_is_whole,
+    retired_is_read, retired_is_recovered, retired_items_are_first, retiring_goes_on,
     sure_is_acknowledged, sure_is_known, survivors_are_recovered, volume_is_announced,
     whole_is_kept,
 };

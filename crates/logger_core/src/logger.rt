@@ -4,7 +4,7 @@ ghost use Rattle.pcp_model.specs.Disk.{IsEmpty, contents_of};
 ghost use Rattle.pcp_model.specs.declared.records.MetaRecord.{MetaRecord as Record};
 ghost use Rattle.logger_core.specs.declared.ends.Ends.{Ends as Numbers};
 ghost use Rattle.pcp_outside.specs.Devices.{LeavesOnly};
-ghost use Rattle.logger_core.specs.declared.fault.LogFault.TheVariants.{Closed, NoMemory as Refused, DiskFault};
+ghost use Rattle.logger_core.specs.declared.fault.LogFault.TheVariants.{Closed, Live, NoMemory as Refused, DiskFault};
 ghost use Rattle.std.specs.List.{AllByRecursion};
 ghost use Rattle.pcp_base.specs.Results.{Fits};
 ghost use Rattle.pcp_base.specs.declared.result.Item.TheVariants.{Sample};
@@ -21,6 +21,8 @@ ghost use Rattle.logger_core.specs.Meant.{Meant, IsAt, IsLogger, SurvivesOf};
 ghost use Rattle.logger_core.specs.Passing.{HasPassedFirst};
 ghost use Rattle.logger_core.specs.Refusals.{FlushMayAnswer, CreateMayAnswer};
 ghost use Rattle.logger_core.specs.Reopening.{IsLeft, IsReopened, SameFiles, ends_of};
+ghost use Rattle.logger_core.specs.Retiring.{HasRetiredSome, IsRetiring, RetireMayAnswer, held_without, retired};
+ghost use Rattle.pcp_base.specs.declared.file.FileId.{FileId as File};
 
 use crate::creating::write_labels;
 use crate::ends::Ends;
@@ -31,6 +33,7 @@ use crate::groups::{Group, Judged, hold, hold_all, is_memory, let_go};
 use crate::logging::write_item;
 use crate::opening::ends_of;
 use crate::preparing::{Made, prepare};
+use crate::retiring::empty_volumes;
 use crate::writing::write_runs;
 use archive_meta::{Facts, MetaState};
 use archive_recovery::Archive;
@@ -189,7 +192,7 @@ impl Logger {
         }
     }
 
-    /// How many items there are: those found at opening, and those logged since.
+    /// How many items there are, or were in volumes that were retired: those found at opening, and those logged since.
     pub fn logged(&self) -> u64
         ensures { result ≡ self.now.ends.logged }
     {
@@ -275,6 +278,52 @@ impl Logger {
                 self.ends = ends;
                 Ok(())
             }
+            Err(_) => {
+                self.closed = true;
+                Err(LogFault::DiskFault)
+            }
+        }
+    }
+
+    /// Retires the volumes below a number, which is at most that of the volume that is written: the lowest first, each is cut to
+    /// empty, but for those that are. Metadata and the index's entries stay. The items of these volumes still count as logged and
+    /// acknowledged, the next result is still compared with the greatest stamp of before, and for the index an item still stands. No memory
+    /// is taken. Every refusal but `DiskFault` leaves all as it was.
+    pub fn retire<D: Disk>(&mut self, disk: &mut D, below: u32) -> Result<(), LogFault>
+        // The volumes below that number hold nothing, and each other file what it held.
+        ensures emptied { D.tells → OnOk result ((file : File) → D.held disk.new file ≡ held_without (D.held disk.old) below file) }
+        // The logger goes on with what is left.
+        ensures done { D.tells → (m : Meant) → IsLogger m self.old (D.held disk.old) → OnOk result (IsLogger (retired m below) self.new (D.held disk.new)) }
+        // It is as it was: `logged`, `acknowledged` and the greatest stamp don't fall.
+        ensures same { OnOk result (self.new ≡ self.old) }
+        // Ok comes only where the logger isn't closed and the number not above the volume that is written.
+        ensures open_ { OnOk result ((self.old.closed ≡ false) × (below ≤ self.old.ends.volume)) }
+        // A crash at any moment leaves some of the lowest of those volumes empty and no other; of the items that are left it has the first
+        // ones, all acknowledged ones among them, each described.
+        ensures any_moment { D.tells → (m : Meant) → IsLogger m self.old (D.held disk.old) → LeavesOnly D.moment D.left_since disk.old disk.new (IsRetiring m below (D.held disk.old)) }
+        // Where the disk failed some of the lowest of those volumes are empty, and no other.
+        ensures failed { D.tells → IfErr result (λ e. e ≡ DiskFault → HasRetiredSome below (D.held disk.old) (D.held disk.new)) }
+        // Closed comes exactly after a fault of the disk, and then nothing is touched.
+        ensures closed { self.old.closed ≡ true → (result ≡ Err Closed) × (self.new ≡ self.old) × (disk.new ≡ disk.old) }
+        // Live comes exactly where the number is above the volume that is written, and then nothing is touched.
+        ensures live { self.old.closed ≡ false → self.old.ends.volume < below → (result ≡ Err (Live self.old.ends.volume)) × (self.new ≡ self.old) × (disk.new ≡ disk.old) }
+        // Which refusal it is; a fault of the disk closes the logger.
+        ensures fault { IfErr result (λ e. RetireMayAnswer self.old self.new below (D.faults disk.old) (D.faults disk.new) e) }
+        ensures later { D.faults disk.old ≤ D.faults disk.new }
+        // Every refusal but a fault of the disk leaves the disk untouched.
+        ensures untouched { IfErr result (λ e. e ≢ DiskFault → disk.new ≡ disk.old) }
+        ensures quiet { OnOk result (D.faults disk.new ≡ D.faults disk.old) }
+    {
+        if self.closed {
+            return Err(LogFault::Closed);
+        }
+        if below > self.ends.volume {
+            return Err(LogFault::Live {
+                volume: self.ends.volume,
+            });
+        }
+        match empty_volumes(disk, below) {
+            Ok(()) => Ok(()),
             Err(_) => {
                 self.closed = true;
                 Err(LogFault::DiskFault)

@@ -9,7 +9,7 @@ use Rattle.pcp_outside.specs.declared.disk.Disk.{Ghosts as DiskGhosts}
 use Rattle.pcp_outside.specs.Devices.{LeavesOnly}
 use Rattle.pcp_outside.proofs.Crash.{joined, weaker}
 use Rattle.logger_core.specs.declared.fault.LogFault.{LogFault}
-use Rattle.logger_core.specs.declared.fault.LogFault.TheVariants.{Closed, Large, NotLater, Changed, Full, NoMemory, DiskFault}
+use Rattle.logger_core.specs.declared.fault.LogFault.TheVariants.{Closed, Live, Large, NotLater, Changed, Full, NoMemory, DiskFault}
 use Rattle.logger_core.proofs.Calls.{no_call}
 use Rattle.logging_session.specs.declared.place.Place.{Place}
 use Rattle.logging_session.specs.declared.place.Place.TheVariants.{Found, Open, Lost, Failed}
@@ -325,6 +325,7 @@ module _ {D : Type 0} (d : DiskGhosts D) (left : Files) where
     module _ (start old new : D) (s t : Carried) (label : t.label ≡ s.label) (limit : t.limit ≡ s.limit) (events : List Event) (h : HasKept d left events start s old) (run : Leaves old new (ComesBackBy events left)) where
       not_flushed : (before after : ℕ) (e : LogFault) → FlushMayAnswer s t before after e → (IsClosed s → new ≡ old) → HasNotFlushed d left events start s t new e
       not_flushed before after Closed may still = (may.0, kept_same events start old new s t may.1 (still may.0) h)
+      not_flushed before after (Live volume) may still = absurd may
       not_flushed before after (Large bytes) may still = absurd may
       not_flushed before after (NotLater last) may still = absurd may
       not_flushed before after (Changed pmid) may still = absurd may
@@ -340,6 +341,7 @@ module _ {D : Type 0} (d : DiskGhosts D) (left : Files) where
     -- where something was logged the session isn't closed
     pub not_closed_by : (events : List Event) (start old new : D) (s t : Carried) → HasKept d left events start s old → (length (items_by events) ≡ 0 → ⊥) → (e : LogFault) → HasNotFlushed d left events start s t new e → HasNotClosed d left events start s new e
     not_closed_by events start old new s t h some Closed fails = absurd (some (ap (λ (es : List Event). length (items_by es)) (closed_none left events s (d.held old) h.keeps fails.0)))
+    not_closed_by events start old new s t h some (Live volume) fails = absurd fails
     not_closed_by events start old new s t h some (Large bytes) fails = absurd fails
     not_closed_by events start old new s t h some (NotLater last) fails = absurd fails
     not_closed_by events start old new s t h some (Changed pmid) fails = absurd fails
@@ -355,6 +357,7 @@ module _ {D : Type 0} (d : DiskGhosts D) (left : Files) where
         let k : Keeps left events t (d.held new) = keeps (λ e. cc) in
         let none : items_by events ≡ [] = ap items_by (closed_none left events s (d.held old) h.keeps may.0) in
         (may.0, kept_still start old new s t label limit events h run k (kept_holds_none left events t (d.held new) k none))
+    not_opened start old new s t label limit events r h run before after (Live volume) may keeps = absurd may
     not_opened start old new s t label limit events r h run before after (Large bytes) may keeps = absurd may
     not_opened start old new s t label limit events r h run before after (NotLater last) may keeps = absurd may
     not_opened start old new s t label limit events r h run before after (Changed pmid) may keeps = absurd may
@@ -386,6 +389,7 @@ module _ {D : Type 0} (d : DiskGhosts D) (left : Files) where
 
       not_taken : (e : LogFault) → TakeMayAnswer r middle new e → TakeFails k.stand middle.limit r e → HasNotLogged d left events r start old new mid e
       not_taken Closed may fails = absurd may
+      not_taken (Live volume) may fails = absurd may
       not_taken (Large bytes) may fails = turned_away (Large bytes) may.0 fails
       not_taken (NotLater t) may fails = turned_away (NotLater t) may.0 fails
       not_taken (Changed pmid) may fails = turned_away (Changed pmid) may.0 fails

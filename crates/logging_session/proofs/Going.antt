@@ -21,7 +21,7 @@ use Rattle.archive_meta.specs.Missing.{framed_records}
 use Rattle.pcp_base.specs.declared.result.PmResult.{PmResult}
 use Rattle.logger_core.specs.declared.ends.Ends.{Ends}
 use Rattle.logger_core.specs.declared.fault.LogFault.{LogFault}
-use Rattle.logger_core.specs.declared.fault.LogFault.TheVariants.{Closed, Large, NotLater, Changed, Full, NoMemory, DiskFault}
+use Rattle.logger_core.specs.declared.fault.LogFault.TheVariants.{Closed, Live, Large, NotLater, Changed, Full, NoMemory, DiskFault}
 use Rattle.logger_core.specs.Laws.{Survives}
 use Rattle.logger_core.specs.LogSteps.{base_files, base_number, crosses, entries_put, with_run}
 use Rattle.logger_core.specs.Grouping.{LogsAll, LogsOne, Told, samples_of}
@@ -173,6 +173,7 @@ module _ (records : List MetaRecord) (e : Ends) (n limit : ℕ) (answer : PmResu
 
   refused_still : (fault : LogFault) → IsRefused records e limit answer facts fault → IsRefused records (with_all n e) limit answer facts fault
   refused_still Closed r = r
+  refused_still (Live volume) r = r
   refused_still (Large bytes) r = r
   refused_still (NotLater last) r = r
   refused_still (Changed pmid) r = r

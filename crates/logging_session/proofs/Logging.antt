@@ -3,7 +3,7 @@ use Rattle.std.proofs.Common.{◌≡◌, ◌≢◌, inl, inr, ℕ, List, sym, �
 use Rattle.pcp_model.specs.Disk.{Files, Holdings}
 use Rattle.pcp_model.specs.LabelFields.{LabelFields}
 use Rattle.logger_core.specs.declared.fault.LogFault.{LogFault}
-use Rattle.logger_core.specs.declared.fault.LogFault.TheVariants.{Closed, Large, NotLater, Changed, Full, NoMemory, DiskFault}
+use Rattle.logger_core.specs.declared.fault.LogFault.TheVariants.{Closed, Live, Large, NotLater, Changed, Full, NoMemory, DiskFault}
 use Rattle.logging_session.specs.Answers.{IsFor, LogFails, LogMayAnswer, OpenMayAnswer, StaysOpen, TakeFails, TakeMayAnswer, TurnsAway}
 use Rattle.logging_session.specs.Events.{Event, LeadFrom, opening}
 use Rattle.logging_session.specs.Keeping.{Carried, HasFailed, HasLogger, HasLost, IsLost, IsOpen, IsWorking, Keeps}
@@ -18,6 +18,7 @@ failed_here p is = subst HasFailed (sym is) tt
 
 pub open_fails : (left : Files) (events : List Event) (r : Report) (old new : Carried) (held : Holdings) (before after : ℕ) (e : LogFault) → OpenMayAnswer old new before after e → (e ≢ DiskFault → Keeps left events new held) → LogFails left events r old new held e
 open_fails left events r old new held before after Closed may keeps = (may.0, keeps (λ e. cc))
+open_fails left events r old new held before after (Live volume) may keeps = absurd may
 open_fails left events r old new held before after (Large bytes) may keeps = absurd may
 open_fails left events r old new held before after (NotLater last) may keeps = absurd may
 open_fails left events r old new held before after (Changed pmid) may keeps = absurd may
@@ -27,6 +28,7 @@ open_fails left events r old new held before after DiskFault may keeps = (may.0,
 
 pub open_may : (r : Report) (old new : Carried) (before after : ℕ) (e : LogFault) → OpenMayAnswer old new before after e → LogMayAnswer r old new before after e
 open_may r old new before after Closed may = may
+open_may r old new before after (Live volume) may = absurd may
 open_may r old new before after (Large bytes) may = absurd may
 open_may r old new before after (NotLater last) may = absurd may
 open_may r old new before after (Changed pmid) may = absurd may
@@ -41,6 +43,7 @@ stays_open old middle new working open_ stays same = (working, subst IsOpen (sym
 
 pub take_may : (r : Report) (old middle new : Carried) (before after : ℕ) (e : LogFault) → IsWorking old → IsOpen middle → (IsOpen old → middle ≡ old) → TakeMayAnswer r middle new e → LogMayAnswer r old new before after e
 take_may r old middle new before after Closed working open_ stays may = absurd may
+take_may r old middle new before after (Live volume) working open_ stays may = absurd may
 take_may r old middle new before after (Large bytes) working open_ stays may = (stays_open old middle new working open_ stays may.0, subst (λ (t : Carried). IsFor t.place r (Large bytes)) (sym may.0) may.1)
 take_may r old middle new before after (NotLater last) working open_ stays may = (stays_open old middle new working open_ stays may.0, subst (λ (t : Carried). IsFor t.place r (NotLater last)) (sym may.0) may.1)
 take_may r old middle new before after (Changed pmid) working open_ stays may = (stays_open old middle new working open_ stays may.0, subst (λ (t : Carried). IsFor t.place r (Changed pmid)) (sym may.0) may.1)
@@ -60,6 +63,7 @@ same_not_lost middle new open_ same lost = open_not_lost middle.place open_ (sub
 
 pub take_not_lost : {A : Type 0} (r : Report) (middle new : Carried) (e : LogFault) → IsOpen middle → TakeMayAnswer r middle new e → IsLost new → A
 take_not_lost r middle new Closed open_ may lost = absurd may
+take_not_lost r middle new (Live volume) open_ may lost = absurd may
 take_not_lost r middle new (Large bytes) open_ may lost = same_not_lost middle new open_ may.0 lost
 take_not_lost r middle new (NotLater last) open_ may lost = same_not_lost middle new open_ may.0 lost
 take_not_lost r middle new (Changed pmid) open_ may lost = same_not_lost middle new open_ may.0 lost
@@ -75,6 +79,7 @@ module _ (left : Files) (events : List Event) (r : Report) (middle new : Carried
 
   pub log_fails : (old : Carried) (e : LogFault) → TakeMayAnswer r middle new e → TakeFails k.stand middle.limit r e → LogFails left events r old new held e
   log_fails old Closed may fails = absurd may
+  log_fails old (Live volume) may fails = absurd may
   log_fails old (Large bytes) may fails = turned (Large bytes) may.0 fails
   log_fails old (NotLater last) may fails = turned (NotLater last) may.0 fails
   log_fails old (Changed pmid) may fails = turned (Changed pmid) may.0 fails

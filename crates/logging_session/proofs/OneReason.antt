@@ -25,7 +25,7 @@ use Rattle.archive_meta.specs.Facts.{FitSets, IsFirstChange}
 use Rattle.archive_meta.specs.Missing.{AreMissing, AreMissingDomains, Lacks, domains_of, framed_records, large_length, listed_from, missing_descriptions}
 use Rattle.logger_core.specs.declared.ends.Ends.{Ends}
 use Rattle.logger_core.specs.declared.fault.LogFault.{LogFault}
-use Rattle.logger_core.specs.declared.fault.LogFault.TheVariants.{Closed, Large, NotLater, Changed, Full, NoMemory, DiskFault}
+use Rattle.logger_core.specs.declared.fault.LogFault.TheVariants.{Closed, Live, Large, NotLater, Changed, Full, NoMemory, DiskFault}
 use Rattle.logger_core.specs.Created.{no_items}
 use Rattle.logger_core.specs.Logging.{AreFramed, HasNoPlace, HasPlace, IsFull, IsLater, IsLoggable, IsRefused}
 use Rattle.logger_core.specs.Meant.{AreEnds}
@@ -160,9 +160,11 @@ module _ (records : List MetaRecord) (e : Ends) (limit : ℕ) (answer : PmResult
 
   pub one_refusal : (a b : LogFault) → a ≢ NoMemory → b ≢ NoMemory → Refused a → Refused b → a ≡ b
   one_refusal Closed b ra rb x y = absurd x
+  one_refusal (Live volume) b ra rb x y = absurd x
   one_refusal DiskFault b ra rb x y = absurd x
   one_refusal NoMemory b ra rb x y = absurd (ra refl)
   one_refusal (Large m) Closed ra rb x y = absurd y
+  one_refusal (Large m) (Live volume) ra rb x y = absurd y
   one_refusal (Large m) DiskFault ra rb x y = absurd y
   one_refusal (Large m) NoMemory ra rb x y = absurd (rb refl)
   one_refusal (Large m) (Large n) ra rb x y = ap (λ (k : ℕ). Large k) (one_large m n x y)
@@ -170,6 +172,7 @@ module _ (records : List MetaRecord) (e : Ends) (limit : ℕ) (answer : PmResult
   one_refusal (Large m) (Changed p) ra rb x y = absurd (not_large m y.0 y.1 x)
   one_refusal (Large m) (Full f n) ra rb x y = absurd (not_large m y.0 (framed_of f n y.3) x)
   one_refusal (NotLater s) Closed ra rb x y = absurd y
+  one_refusal (NotLater s) (Live volume) ra rb x y = absurd y
   one_refusal (NotLater s) DiskFault ra rb x y = absurd y
   one_refusal (NotLater s) NoMemory ra rb x y = absurd (rb refl)
   one_refusal (NotLater s) (Large n) ra rb x y = absurd (not_large n x.0 x.1 y)
@@ -177,6 +180,7 @@ module _ (records : List MetaRecord) (e : Ends) (limit : ℕ) (answer : PmResult
   one_refusal (NotLater s) (Changed p) ra rb x y = absurd (not_late s y.2 x.2 x.3)
   one_refusal (NotLater s) (Full f n) ra rb x y = absurd (not_late s y.1 x.2 x.3)
   one_refusal (Changed p) Closed ra rb x y = absurd y
+  one_refusal (Changed p) (Live volume) ra rb x y = absurd y
   one_refusal (Changed p) DiskFault ra rb x y = absurd y
   one_refusal (Changed p) NoMemory ra rb x y = absurd (rb refl)
   one_refusal (Changed p) (Large n) ra rb x y = absurd (not_large n x.0 x.1 y)
@@ -184,6 +188,7 @@ module _ (records : List MetaRecord) (e : Ends) (limit : ℕ) (answer : PmResult
   one_refusal (Changed p) (Changed q) ra rb (few, framed, later, (c, first, is)) (also, too, after, (d, other, same)) = ap (λ (k : ℕ). Changed k) (is ∙ one_change records facts.metrics answer.sets c d first other ∙ sym same)
   one_refusal (Changed p) (Full f n) ra rb (few, framed, later, (c, first, is)) y = absurd (not_changed records facts.metrics answer.sets c y.2 first)
   one_refusal (Full f m) Closed ra rb x y = absurd y
+  one_refusal (Full f m) (Live volume) ra rb x y = absurd y
   one_refusal (Full f m) DiskFault ra rb x y = absurd y
   one_refusal (Full f m) NoMemory ra rb x y = absurd (rb refl)
   one_refusal (Full f m) (Large n) ra rb x y = absurd (not_large n x.0 (framed_of f m x.3) y)
@@ -194,6 +199,7 @@ module _ (records : List MetaRecord) (e : Ends) (limit : ℕ) (answer : PmResult
   -- and none of what may be logged
   pub not_refused : (a : LogFault) → a ≢ NoMemory → IsLoggable records e limit answer facts → Refused a → ⊥
   not_refused Closed ra may x = x
+  not_refused (Live volume) ra may x = x
   not_refused DiskFault ra may x = x
   not_refused NoMemory ra may x = ra refl
   not_refused (Large n) ra may x = not_large n may.framed (may.missing, may.needed, may.fits) x

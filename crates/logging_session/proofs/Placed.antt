@@ -4,7 +4,7 @@ use Rattle.pcp_base.specs.declared.result.PmResult.{PmResult}
 use Rattle.archive_meta.specs.declared.facts.Facts.{Facts}
 use Rattle.archive_recovery.specs.declared.outcome.Archive.{Archive}
 use Rattle.logger_core.specs.declared.fault.LogFault.{LogFault}
-use Rattle.logger_core.specs.declared.fault.LogFault.TheVariants.{Closed, Large, NotLater, Changed, Full, NoMemory, DiskFault}
+use Rattle.logger_core.specs.declared.fault.LogFault.TheVariants.{Closed, Live, Large, NotLater, Changed, Full, NoMemory, DiskFault}
 use Rattle.logger_core.specs.Held.{counts_of}
 use Rattle.logger_core.specs.Holding.{HeldBack, HoldMayAnswer}
 use Rattle.logger_core.specs.Refusals.{CreateMayAnswer}
@@ -87,6 +87,7 @@ lost_answers old lost before after e is found now why = subst (λ (f : LogFault)
 -- a creation is refused for want of memory, or by the disk
 pub open_answers : (old failed : Carried) (before after : ℕ) (e : LogFault) → IsFound old → failed.place ≡ Failed 0 → CreateMayAnswer before after e → e ≢ NoMemory → OpenMayAnswer old failed before after e
 open_answers old failed before after Closed found is may other = absurd may
+open_answers old failed before after (Live volume) found is may other = absurd may
 open_answers old failed before after (Large bytes) found is may other = absurd may
 open_answers old failed before after (NotLater last) found is may other = absurd may
 open_answers old failed before after (Changed pmid) found is may other = absurd may
@@ -97,6 +98,7 @@ open_answers old failed before after DiskFault found is may other = (found, is, 
 -- but for want of memory only the disk refuses it
 pub open_rose : {A : Type 0} (before after : ℕ) (e : LogFault) → CreateMayAnswer before after e → e ≢ NoMemory → e ≢ DiskFault → A
 open_rose before after Closed may other also = absurd may
+open_rose before after (Live volume) may other also = absurd may
 open_rose before after (Large bytes) may other also = absurd may
 open_rose before after (NotLater last) may other also = absurd may
 open_rose before after (Changed pmid) may other also = absurd may
@@ -107,6 +109,7 @@ open_rose before after DiskFault may other also = absurd (also refl)
 -- why an open archive doesn't hold a result
 pub hold_answers : (old new : Carried) (b : HeldBack) (answer : PmResult) (facts : Facts) (e : LogFault) → b.kept.closed ≡ false → HoldMayAnswer b answer facts e → new ≡ old → old.place ≡ Open b → TakeMayAnswer (record { result = answer; facts = facts }) old new e
 hold_answers old new b answer facts Closed usable may same was = not_closed b.kept.closed may usable
+hold_answers old new b answer facts (Live volume) usable may same was = absurd may.1
 hold_answers old new b answer facts (Large bytes) usable may same was = (same, subst (λ (p : Place). IsFor p (record { result = answer; facts = facts }) (Large bytes)) (sym was) may.1)
 hold_answers old new b answer facts (NotLater last) usable may same was = (same, subst (λ (p : Place). IsFor p (record { result = answer; facts = facts }) (NotLater last)) (sym was) may.1)
 hold_answers old new b answer facts (Changed pmid) usable may same was = (same, subst (λ (p : Place). IsFor p (record { result = answer; facts = facts }) (Changed pmid)) (sym was) may.1)
@@ -154,6 +157,7 @@ failed_unheld p q is = omega (arith, ap held_in is)
 
 pub open_unheld : (old new : Carried) (before after : ℕ) (e : LogFault) → OpenMayAnswer old new before after e → held_in new.place ≤ held_in old.place
 open_unheld old new before after Closed may = still_held old new may.1
+open_unheld old new before after (Live volume) may = absurd may
 open_unheld old new before after (Large bytes) may = absurd may
 open_unheld old new before after (NotLater last) may = absurd may
 open_unheld old new before after (Changed pmid) may = absurd may
@@ -163,6 +167,7 @@ open_unheld old new before after DiskFault may = failed_unheld old.place new.pla
 
 pub take_unheld : (r : Report) (old new : Carried) (e : LogFault) (n : ℕ) → held_in old.place ≡ n → TakeMayAnswer r old new e → held_in new.place ≤ n
 take_unheld r old new Closed n is may = absurd may
+take_unheld r old new (Live volume) n is may = absurd may
 take_unheld r old new (Large bytes) n is may = omega (arith, still_held old new may.0, is)
 take_unheld r old new (NotLater last) n is may = omega (arith, still_held old new may.0, is)
 take_unheld r old new (Changed pmid) n is may = omega (arith, still_held old new may.0, is)

@@ -17,7 +17,7 @@ use Rattle.pcp_outside.proofs.Crash.{weaker}
 use Rattle.archive_recovery.specs.declared.outcome.Archive.{Archive}
 use Rattle.logger_core.specs.declared.ends.Ends.{Ends}
 use Rattle.logger_core.specs.declared.fault.LogFault.{LogFault}
-use Rattle.logger_core.specs.declared.fault.LogFault.TheVariants.{Closed, Large, NotLater, Changed, Full, NoMemory, DiskFault}
+use Rattle.logger_core.specs.declared.fault.LogFault.TheVariants.{Closed, Live, Large, NotLater, Changed, Full, NoMemory, DiskFault}
 use Rattle.logger_core.specs.Going.{IsFlushed, IsVolumeSure, all_acknowledged, counting_all}
 use Rattle.logger_core.specs.Grouping.{Told, samples_of}
 use Rattle.logger_core.specs.Held.{counts_of}
@@ -86,6 +86,7 @@ untouched_comes left events files held u image comes =
 module _ {l : LabelFields} (left : Files) (limit : ℕ) (events : List Event) (r : Report) (stand : Stand) (b : HeldBack) (old : Holdings) (o : StandsOpen l left limit events stand b old) where
   pub take_fails : (e : LogFault) → HoldMayAnswer b r.result r.facts e → TakeFails stand limit r e
   take_fails Closed may = not_closed b.kept.closed may o.going.open_
+  take_fails (Live volume) may = absurd may.1
   take_fails (Large bytes) may = (o.w, o.is, turned_refuses left limit events r o.w b old o.going (Large bytes) may.1)
   take_fails (NotLater last) may = (o.w, o.is, turned_refuses left limit events r o.w b old o.going (NotLater last) may.1)
   take_fails (Changed pmid) may = (o.w, o.is, turned_refuses left limit events r o.w b old o.going (Changed pmid) may.1)

@@ -6,7 +6,7 @@ use Rattle.pcp_model.specs.Disk.{CrashImage, Files}
 use Rattle.pcp_outside.specs.declared.disk.Disk.{Ghosts as DiskGhosts}
 use Rattle.pcp_outside.specs.Devices.{LeavesOnly}
 use Rattle.logger_core.specs.declared.fault.LogFault.{LogFault}
-use Rattle.logger_core.specs.declared.fault.LogFault.TheVariants.{Closed, Large, NotLater, Changed, Full, NoMemory, DiskFault}
+use Rattle.logger_core.specs.declared.fault.LogFault.TheVariants.{Closed, Live, Large, NotLater, Changed, Full, NoMemory, DiskFault}
 use Rattle.logger_core.specs.Grouping.{LogsAll, Told, samples_of}
 use Rattle.logger_core.specs.Held.{counts_of}
 use Rattle.logger_core.specs.Holding.{HeldBack, IsHolding, WriteMayAnswer}
@@ -23,6 +23,7 @@ use Rattle.logging_session.proofs.Logged.{not_closed}
 -- of a logger that isn't closed only the disk refuses a write, and not all is written
 pub write_fails : (old new : HeldBack) (before after k : ℕ) (e : LogFault) → old.kept.closed ≡ false → WriteMayAnswer old new before after k e → (e ≡ DiskFault) × (k < counts_of old.runs)
 write_fails old new before after k Closed open_ may = not_closed old.kept.closed may.1 open_
+write_fails old new before after k (Live volume) open_ may = absurd may
 write_fails old new before after k (Large bytes) open_ may = absurd may
 write_fails old new before after k (NotLater last) open_ may = absurd may
 write_fails old new before after k (Changed pmid) open_ may = absurd may

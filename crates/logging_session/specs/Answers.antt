@@ -6,7 +6,7 @@ use Rattle.pcp_outside.specs.Causes.{Rose, shown_count}
 use Rattle.pcp_outside.specs.declared.disk.Disk.{Ghosts as DiskGhosts}
 use Rattle.logger_core.specs.declared.ends.Ends.{Ends}
 use Rattle.logger_core.specs.declared.fault.LogFault.{LogFault}
-use Rattle.logger_core.specs.declared.fault.LogFault.TheVariants.{Closed, Large, NotLater, Changed, Full, NoMemory, DiskFault}
+use Rattle.logger_core.specs.declared.fault.LogFault.TheVariants.{Closed, Live, Large, NotLater, Changed, Full, NoMemory, DiskFault}
 use Rattle.logger_core.specs.Going.{IsFlushed, all_acknowledged, counting_all}
 use Rattle.logger_core.specs.Grouping.{Told}
 use Rattle.logger_core.specs.Held.{counts_of}
@@ -37,6 +37,7 @@ pub record TurnsAway (left : Files) (events : List Event) (r : Report) (fault : 
 -- Which refusal `log` answers, and what then stands: what was opened for the result stays open.
 abbrev pub LogFails : Files → List Event → Report → Carried → Carried → Holdings → LogFault → Type 0
 LogFails left events r old new held Closed = IsClosed old × Keeps left events new held
+LogFails left events r old new held (Live volume) = ⊥
 LogFails left events r old new held (Large bytes) = TurnsAway left (opening r.result.stamp events) r (Large bytes) new held
 LogFails left events r old new held (NotLater last) = TurnsAway left (opening r.result.stamp events) r (NotLater last) new held
 LogFails left events r old new held (Changed pmid) = TurnsAway left (opening r.result.stamp events) r (Changed pmid) new held
@@ -70,6 +71,7 @@ WantsMemory place = ⊥
 -- once what is held is written.
 abbrev pub LogMayAnswer : Report → Carried → Carried → ℕ → ℕ → LogFault → Type 0
 LogMayAnswer r old new before after Closed = IsClosed old × (new ≡ old)
+LogMayAnswer r old new before after (Live volume) = ⊥
 LogMayAnswer r old new before after NoMemory = (IsFound old × IsLost new × WantsMemory old.place) ⊎ StaysOpen old new
 LogMayAnswer r old new before after DiskFault = IsFound old × (new.place ≡ Failed 0) × Rose before after
 LogMayAnswer r old new before after fault = StaysOpen old new × IsFor new.place r fault
@@ -124,6 +126,7 @@ CountsAll place = Unit {0}
 -- and then judges and holds the result
 abbrev pub TakeMayAnswer : Report → Carried → Carried → LogFault → Type 0
 TakeMayAnswer r old new Closed = ⊥
+TakeMayAnswer r old new (Live volume) = ⊥
 TakeMayAnswer r old new DiskFault = ⊥
 TakeMayAnswer r old new NoMemory = new ≡ old
 TakeMayAnswer r old new fault = (new ≡ old) × IsFor old.place r fault
@@ -131,6 +134,7 @@ TakeMayAnswer r old new fault = (new ≡ old) × IsFor old.place r fault
 -- an archive that is open refuses the result
 abbrev pub TakeFails : Stand → ℕ → Report → LogFault → Type 0
 TakeFails stand limit r Closed = ⊥
+TakeFails stand limit r (Live volume) = ⊥
 TakeFails stand limit r NoMemory = Unit {0}
 TakeFails stand limit r DiskFault = ⊥
 TakeFails stand limit r fault = (w : Written) × (stand ≡ Stand.opened w) × Refuses limit r w fault

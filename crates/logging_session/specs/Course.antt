@@ -7,7 +7,7 @@ use Rattle.pcp_model.specs.LabelFields.{LabelFields}
 use Rattle.pcp_outside.specs.Devices.{LeavesOnly}
 use Rattle.pcp_outside.specs.declared.disk.Disk.{Ghosts as DiskGhosts}
 use Rattle.logger_core.specs.declared.fault.LogFault.{LogFault}
-use Rattle.logger_core.specs.declared.fault.LogFault.TheVariants.{Closed, Large, NotLater, Changed, Full, NoMemory, DiskFault}
+use Rattle.logger_core.specs.declared.fault.LogFault.TheVariants.{Closed, Live, Large, NotLater, Changed, Full, NoMemory, DiskFault}
 use Rattle.logging_session.specs.ComingBack.{ComesBackTo}
 use Rattle.logging_session.specs.Events.{EndsLogged, Event, LeadFrom, acknowledged_by, items_by, logged_all, opening}
 use Rattle.logging_session.specs.Keeping.{Carried, IsClosed, Keeps, held_in, lost_in}
@@ -64,6 +64,7 @@ module _ {D : Type 0} (d : DiskGhosts D) (left : Files) (events : List Event) (r
   -- What a result leaves that isn't logged. The disk fails only where the archive was to be opened for it.
   abbrev pub HasNotLogged : LogFault → Type 0
   HasNotLogged Closed = IsClosed old × HasKept d left events start new disk
+  HasNotLogged (Live volume) = ⊥
   HasNotLogged (Large bytes) = HasTurnedAway (Large bytes)
   HasNotLogged (NotLater last) = HasTurnedAway (NotLater last)
   HasNotLogged (Changed pmid) = HasTurnedAway (Changed pmid)
