@@ -104,10 +104,12 @@ fn items_in(output: &[u8]) -> Option<u64> {
     Some(number_of(digits))
 }
 
-// Each file is a front of what it holds where nothing fails.
-fn are_fronts(left: &[Held], whole: &[Held]) -> bool {
+// Each file is as it was before, or a front of what it holds where nothing fails.
+fn are_between(left: &[Held], before: &[Held], whole: &[Held]) -> bool {
     for held in left {
-        if !bytes_in(whole, held.file).starts_with(&held.bytes) {
+        let bytes = held.bytes.as_slice();
+        let was = bytes == bytes_in(before, held.file);
+        if !was && !bytes_in(whole, held.file).starts_with(bytes) {
             return false;
         }
     }
@@ -122,14 +124,13 @@ fn may_end(plain: &[u8], ended: &Ended) -> bool {
     }
 }
 
-// Recovers files, and answers whether that ends as it may: with a number of items between two, and files that are
-// fronts of those where nothing failed.
+// Recovers what a run left, and answers whether that ends as it may: with a number of items between two, and files that
+// are as they were before the run, or fronts of those where nothing failed.
 fn recovers(
     alloc: Global,
+    plain: &Plain,
     files: &[Held],
-    whole: &[Held],
     least: u64,
-    most: u64,
 ) -> Result<bool, NoMemory> {
     let mut disk = planned_disk(alloc, files, &[])?;
     let words = words_of(alloc, "recover")?;
@@ -138,7 +139,8 @@ fn recovers(
         return Ok(false);
     };
     let left = snapshot(alloc, &disk)?;
-    Ok(ended.status == 0 && least <= items && items <= most && are_fronts(&left, whole))
+    let between = are_between(&left, &plain.before, &plain.after);
+    Ok(ended.status == 0 && least <= items && items <= plain.most && between)
 }
 
 // What a run with a fault ends with, and what a crash leaves of its files, at the sure bytes and at all of them.
@@ -232,7 +234,7 @@ impl Tally {
         files: &[Held],
         least: u64,
     ) -> Result<(), NoMemory> {
-        let holds = recovers(alloc, files, &plain.after, least, plain.most)?;
+        let holds = recovers(alloc, plain, files, least)?;
         self.recoveries = self.recoveries.saturating_add(1);
         self.note(holds);
         Ok(())
@@ -318,7 +320,14 @@ fn copy_of(alloc: Global, files: &[Held]) -> Result<Vec<Held>, NoMemory> {
     Ok(copies)
 }
 
-// Runs the words over files with no fault, and recovers what they leave.
+// How many items are recovered of what a disk holds.
+fn count_items(alloc: Global, disk: &mut MemDisk) -> Result<u64, NoMemory> {
+    let words = words_of(alloc, "recover")?;
+    let ended = run(alloc, &words, &[], disk)?;
+    Ok(items_in(&ended.output).unwrap_or(0))
+}
+
+// Runs the words over files with no fault, and recovers what they found and what they leave.
 fn plain_of(
     alloc: Global,
     words: &str,
@@ -330,8 +339,9 @@ fn plain_of(
     let mut disk = planned_disk(alloc, &before, &[])?;
     let ended = run(alloc, &words, input, &mut disk)?;
     let after = snapshot(alloc, &disk)?;
-    let recover = words_of(alloc, "recover")?;
-    let recovered = run(alloc, &recover, &[], &mut disk)?;
+    let left = count_items(alloc, &mut disk)?;
+    let mut found = planned_disk(alloc, &before, &[])?;
+    let most = count_items(alloc, &mut found)?.max(left);
     Ok(Plain {
         words,
         input: input.to_vec(alloc)?,
@@ -339,14 +349,14 @@ fn plain_of(
         output: ended.output,
         after,
         least,
-        most: items_in(&recovered.output).unwrap_or(0),
+        most,
     })
 }
 
 /// `faults LEAST WORDS`: the words run over the input and the files of the case, once with no fault and then with each
 /// call of the disk failing in turn, one that changes files once with nothing kept and once with ten bytes. Each is
 /// crashed at its sure bytes and at all, and recovered: to as many items as were acknowledged or more, LEAST at least,
-/// and to fronts of the files of the run without a fault. `pairs LEAST WORDS`: behind each such crash each call of the
+/// and to files as they were, or fronts of those of the run without a fault. `pairs LEAST WORDS`: behind each such crash each call of the
 /// recovery fails in turn, and what a crash leaves of that is recovered. Each writes how many calls of each kind there
 /// are, and how many runs and recoveries.
 pub fn faults(

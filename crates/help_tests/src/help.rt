@@ -4,7 +4,7 @@ use pcp_outside::MemSink;
 use pcp_shell::write_help;
 use std::test::Fail;
 
-const LINES: [&str; 15] = [
+const LINES: [&str; 16] = [
     "\n  once SEC USEC FILE ",
     "\n  replay VOLUME ",
     "\n  make NUMBER TICKS VOLUME ",
@@ -17,6 +17,7 @@ const LINES: [&str; 15] = [
     "\n  value SEC USEC NAME ",
     "\n  info ",
     "\n  check ",
+    "\n  retire N ",
     "\n  mmv-make ",
     "\n  mmv-dump ",
     "\n  mmv-lift ",

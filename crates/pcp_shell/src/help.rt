@@ -13,7 +13,7 @@ const ENDING: &str =
     "BASE begins the names of the archive's files: BASE.meta, BASE.index, BASE.0 and so on.";
 
 // Each command with its words, and what it does.
-const COMMANDS: [(&str, &str); 15] = [
+const COMMANDS: [(&str, &str); 16] = [
     (
         "once SEC USEC FILE",
         "Log the values of an image as one result",
@@ -46,6 +46,10 @@ const COMMANDS: [(&str, &str); 15] = [
     (
         "check",
         "Tell whether an archive is sound, or where it isn't",
+    ),
+    (
+        "retire N",
+        "Empty the volumes of an archive below a number",
     ),
     ("mmv-make", "Make the image of a layout text"),
     ("mmv-dump", "Print an image as a layout text"),

@@ -20,9 +20,9 @@ use Rattle.script_runs.specs.declared.ending.Ending.{Ending}
 use Rattle.script_runs.specs.declared.ending.Ending.TheVariants as ends
 use Rattle.run_script.specs.declared.script.Script.{Script}
 use Rattle.pm_words.specs.declared.refusal.Refusal.{Refusal}
-use Rattle.pm_words.specs.declared.refusal.Refusal.TheVariants.{Compressed, NotArchive, Nothing, UnsoundItems, UnsoundBoundary, UnsoundLate}
+use Rattle.pm_words.specs.declared.refusal.Refusal.TheVariants.{Compressed, NotArchive, Nothing, UnsoundItems, UnsoundBoundary, UnsoundLate, Live}
 use Rattle.pm_words.specs.declared.words.Command.{Command}
-use Rattle.pm_words.specs.declared.words.Command.TheVariants.{Once, Replay, Make, MmvMake, MmvDump, MmvLift, Dump, Info, Check, Recover, At, Range, Value, Record, Serve}
+use Rattle.pm_words.specs.declared.words.Command.TheVariants.{Once, Replay, Make, Retire, MmvMake, MmvDump, MmvLift, Dump, Info, Check, Recover, At, Range, Value, Record, Serve}
 use Rattle.pm_words.specs.declared.words.ValueWords.{ValueWords}
 use Rattle.pm_words.specs.Refusals.{IsOfSoundness, ending_refusal, status_of}
 use Rattle.pm_words.specs.Sides.{Found}
@@ -33,6 +33,7 @@ use Rattle.pm_runs.specs.commands.make.{making}
 use Rattle.pm_runs.specs.commands.once.{logging}
 use Rattle.pm_runs.specs.commands.recover as recover
 use Rattle.pm_runs.specs.commands.replay.{replaying}
+use Rattle.pm_runs.specs.commands.retire as retire
 use Rattle.pm_tasks.specs.Archives.{IsLoaded, IsNotLoaded}
 use Rattle.pm_tasks.specs.commands.at as at
 use Rattle.pm_tasks.specs.commands.check as check
@@ -110,6 +111,12 @@ no_recovery f (Compressed file) of t = of
 no_recovery f (NotArchive file offset) of t = of
 no_recovery f _ of t = t
 
+no_retirement : (below : ℕ) (f : Found) (e : Refusal) → IsOfSoundness e → retire.IsTurnedAway below f e → ⊥
+no_retirement below f (Compressed file) of t = of
+no_retirement below f (NotArchive file offset) of t = of
+no_retirement below f (Live volume) of t = of
+no_retirement below f _ of t = t
+
 no_dump : (r : Loaded) (f : Found) (e : Refusal) → IsOfSoundness e → dump.BadRecord r f e → ⊥
 no_dump r f (NotArchive file offset) of t = of
 no_dump r f _ of t = t
@@ -136,6 +143,7 @@ pub only_check : (command : Command) (input : List ℕ) (f : Found) (e : Refusal
 only_check (Once asked) input f e of t = absurd (no_runner (logging asked) input f e of t)
 only_check (Replay volume) input f e of t = absurd (no_runner (replaying volume) input f e of t)
 only_check (Make asked) input f e of t = absurd (no_runner (making asked) input f e of t)
+only_check (Retire below) input f e of t = absurd (no_retirement below f e of t)
 only_check MmvMake input f e of t = absurd t
 only_check MmvDump input f e of t = absurd t
 only_check MmvLift input f e of t = absurd t

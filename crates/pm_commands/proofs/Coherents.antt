@@ -1,10 +1,11 @@
 -- The laws of each command's meaning.
 use Rattle.std.proofs.Common.{None, []}
 use Rattle.pm_words.specs.declared.words.Command.{Command}
-use Rattle.pm_words.specs.declared.words.Command.TheVariants.{Once, Replay, Make, MmvMake, MmvDump, MmvLift, Dump, Info, Check, Recover, At, Range, Value, Record, Serve}
+use Rattle.pm_words.specs.declared.words.Command.TheVariants.{Once, Replay, Make, Retire, MmvMake, MmvDump, MmvLift, Dump, Info, Check, Recover, At, Range, Value, Record, Serve}
 use Rattle.pm_words.proofs.Coherent.{IsCoherent, converts_coherent}
 use Rattle.pm_tasks.proofs.Coherent.{at_coherent, check_coherent, dump_coherent, info_coherent, mmv_dump_coherent, mmv_lift_coherent, mmv_make_coherent, range_coherent, value_coherent}
 use Rattle.pm_runs.proofs.Coherent.{recover_coherent, runs_coherent}
+use Rattle.pm_runs.proofs.Retired.{retire_coherent}
 use Rattle.pm_runs.specs.commands.make.{making}
 use Rattle.pm_runs.specs.commands.once.{logging}
 use Rattle.pm_runs.specs.commands.replay.{replaying}
@@ -14,6 +15,7 @@ pub coherent : (command : Command) → IsCoherent (meaning command)
 coherent (Once asked) = runs_coherent (logging asked)
 coherent (Replay volume) = runs_coherent (replaying volume)
 coherent (Make asked) = runs_coherent (making asked)
+coherent (Retire below) = retire_coherent below
 coherent MmvMake = mmv_make_coherent
 coherent MmvDump = mmv_dump_coherent
 coherent MmvLift = mmv_lift_coherent

@@ -1,5 +1,5 @@
 -- Status 10 comes exactly where `check` finds an archive that isn't sound.
-use Rattle.std.proofs.Common.{◌≡◌, ◌⊎◌, inl, inr, ℕ, true, false, List, [], refl, subst, arith}
+use Rattle.std.proofs.Common.{◌≡◌, ◌⊎◌, inl, inr, ℕ, true, false, List, [], refl, sym, ◌∙◌, subst, arith}
 use Rattle.pcp_outside.specs.Sides.{SourceSide, SinkSide}
 use Rattle.pm_words.specs.declared.words.Command.{Command}
 use Rattle.pm_words.specs.declared.words.Command.TheVariants.{Check}
@@ -46,28 +46,29 @@ module _ (words : List (List ℕ)) (s : SourceSide) (k : SinkSide) (d : DiskSide
       let sound = (says tells).2 in
       u.unsound (sound.reading, sound.reads, sound.sound)
 
-  -- `check` reads no input, so that none fails
-  not_reader : IsReader words → IsCommand words Check → ⊥
-  not_reader (command, asked, takes) is =
-      let same : command ≡ Check = one words s k d command Check asked is in
-      let e : false ≡ true = subst (λ (x : Command). takes_input x ≡ true) same takes in cc
+  -- a command that reads no input has none that fails
+  not_reader : (command : Command) → takes_input command ≡ false → IsReader words → IsCommand words command → ⊥
+  not_reader command none (other, asked, takes) is =
+      let same : other ≡ command = one words s k d other command asked is in
+      let e : false ≡ true = sym none ∙ subst (λ (x : Command). takes_input x ≡ true) same takes in cc
 
   of_three : (e : Refusal) → Cause words s d e → status_of e ≡ 3 → IsReader words
   of_three ReadFault c h = c.0.0
   of_three (Script fault) c h = absurd (script_apart 3 (λ n. omega (arith, n)) (λ n. omega (arith, n)) fault.fault h)
   of_three _ c h = absurd (omega (arith, h))
 
-  without_three : (e : Refusal) → Cause words s d e → IsCommand words Check → (status_of e ≡ 10) ⊎ ((status_of e ≡ 9) ⊎ ((status_of e ≡ 3) ⊎ (status_of e ≡ 5))) → (status_of e ≡ 10) ⊎ ((status_of e ≡ 9) ⊎ (status_of e ≡ 5))
-  without_three e c is (inl ten) = inl ten
-  without_three e c is (inr (inl nine)) = inr (inl nine)
-  without_three e c is (inr (inr (inl three))) = absurd (not_reader (of_three e c three) is)
-  without_three e c is (inr (inr (inr five))) = inr (inr five)
+  pub without_three : (command : Command) → takes_input command ≡ false → (n : ℕ) (e : Refusal) → Cause words s d e → IsCommand words command → (status_of e ≡ n) ⊎ ((status_of e ≡ 9) ⊎ ((status_of e ≡ 3) ⊎ (status_of e ≡ 5)))
+      → (status_of e ≡ n) ⊎ ((status_of e ≡ 9) ⊎ (status_of e ≡ 5))
+  without_three command none n e c is (inl that) = inl that
+  without_three command none n e c is (inr (inl nine)) = inr (inl nine)
+  without_three command none n e c is (inr (inr (inl three))) = absurd (not_reader command none (of_three e c three) is)
+  without_three command none n e c is (inr (inr (inr five))) = inr (inr five)
 
   -- and each is told, unless memory ran out or the disk failed
   found : (e : Refusal) → Cause words s d e → IsCommand words Check → d.tells → IsUnsound (files_found d) → (status_of e ≡ 10) ⊎ ((status_of e ≡ 9) ⊎ (status_of e ≡ 5))
   found e c is tells u =
       let asked : IsGiven words s = record { command = Check; words_are = is; input = []; given = refl } in
-      without_three e c is (turned_found words s k d 10 asked refl
+      without_three Check refl 10 e c is (turned_found words s k d 10 asked refl
       (λ (a : Asks words s) (x : Refusal) turned.
       unsound_only (files_found d) u x (subst (λ (y : Command). (meaning y).turns_away a.input (files_found d) x) (one words s k d a.command Check a.words_are is) (turned tells))) e c)
 

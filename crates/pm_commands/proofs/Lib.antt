@@ -3,6 +3,7 @@ pub mod Coherents
 pub mod Ending
 pub mod Facts
 pub mod Judged
+pub mod Lives
 pub mod Served
 pub mod Torn
 pub mod Welcome

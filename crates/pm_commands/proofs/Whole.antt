@@ -27,6 +27,7 @@ use Rattle.pm_commands.proofs.Coherents.{coherent}
 use Rattle.pm_commands.proofs.Ending.{before_cause, ends, stop_cause}
 use Rattle.pm_commands.proofs.Facts as facts_of
 use Rattle.pm_commands.proofs.Judged.{soundness_is_exact}
+use Rattle.pm_commands.proofs.Lives.{live_is_exact}
 
 -- a body's refusal is none of the words or of the reading
 of_body : (m : Meaning) (input : List ℕ) (d : DiskSide) (e : Refusal) → StopCause m input d e → IsOfBody e
@@ -150,6 +151,7 @@ module _ {I O D : Type 0} (c : Sides I O D) (front : List ℕ) (result : Result 
         run_refused = facts_of.run_is_exact c.words (source_of c) (sink_of c) (disk_of c) status end;
         nothing_there = facts_of.nothing_is_there c.words (source_of c) (sink_of c) (disk_of c) status end;
         soundness = soundness_is_exact c.words (source_of c) (sink_of c) (disk_of c) status end;
+        live = live_is_exact c.words (source_of c) (sink_of c) (disk_of c) status end;
         archive_fault = facts_of.archive_fault_is_exact c.words (source_of c) (sink_of c) (disk_of c) status end;
         unwritten = facts_of.unwritten c.words (source_of c) (sink_of c) (disk_of c) status end;
         aside = is_aside so;

@@ -14,11 +14,11 @@ use Rattle.pcp_outside.specs.declared.streams.Source.{Ghosts as SourceGhosts}
 use Rattle.run_passes.specs.declared.opening.Opened.{Opened}
 use Rattle.pm_words.specs.declared.words.Call.TheVariants as calls
 use Rattle.pm_words.specs.declared.words.Command.{Command}
-use Rattle.pm_words.specs.declared.words.Command.TheVariants.{Check}
+use Rattle.pm_words.specs.declared.words.Command.TheVariants.{Check, Retire}
 use Rattle.run_script.specs.declared.fault.ScriptFault.{ScriptFault}
 use Rattle.script_runs.specs.declared.ending.LimitKind.{LimitKind}
 use Rattle.pm_words.specs.declared.refusal.Refusal.{Refusal}
-use Rattle.pm_words.specs.declared.refusal.Refusal.TheVariants.{Script, Condition, Limit, NotLater, Changed, Compressed, Nothing}
+use Rattle.pm_words.specs.declared.refusal.Refusal.TheVariants.{Script, Condition, Limit, NotLater, Changed, Compressed, Nothing, Live}
 use Rattle.pm_words.specs.Asking.{IsInputless, ReadingIsExact, UsageIsExact}
 use Rattle.pm_words.specs.Reading.{IsAbove}
 use Rattle.pm_words.specs.CommandLine.{asked_by, takes_input}
@@ -29,6 +29,8 @@ use Rattle.pm_words.specs.Serving.{HadRecovered}
 use Rattle.pm_words.specs.Sides.{DiskSide, Found, disk_side, files_found, IsUnread, Leaves, Untouched}
 use Rattle.pm_words.specs.Sound.{LeavesSound}
 use Rattle.pm_words.specs.Telling.{TellsAll}
+use Rattle.pm_runs.specs.commands.recover.{IsMendedSide}
+use Rattle.pm_runs.specs.commands.retire.{IsLiveFound}
 use Rattle.pm_commands.specs.Causes.{Asks, fault_of, Finds, IsReader}
 use Rattle.pm_commands.specs.Ends.{Ends, EndsDone, MayBeLeft}
 use Rattle.pm_commands.specs.Meanings.{meaning}
@@ -111,6 +113,12 @@ pub record IsUnsound (f : Found) : Type 0 where
 pub record SoundnessIsExact (words : List (List ℕ)) (s : SourceSide) (d : DiskSide) (status : ℕ) : Type 0 where
   pub only : status ≡ 10 → ((e : Refusal) × (status_of e ≡ 10) × TurnsAway words s d e) × (d.tells → IsCommand words Check × IsUnsound (files_found d))
   pub always : IsCommand words Check → d.tells → IsUnsound (files_found d) → (status ≡ 10) ⊎ ((status ≡ 9) ⊎ (status ≡ 5))
+
+-- 14 exactly where the words ask for `retire` with a number above the current volume of the archive that it finds, or where that has no label;
+-- then the line tells this volume, or 0, and the files are what recovery leaves of them, each byte sure. A disk that fails comes before.
+pub record LiveIsExact (words : List (List ℕ)) (s : SourceSide) (d : DiskSide) (status : ℕ) : Type 0 where
+  pub only : status ≡ 14 → (volume : ℕ) × TurnsAway words s d (Live volume) × (d.tells → (below : ℕ) × IsCommand words (Retire below) × IsLiveFound below (files_found d) volume × IsMendedSide d)
+  pub always : (below volume : ℕ) → IsCommand words (Retire below) → d.tells → IsLiveFound below (files_found d) volume → (status ≡ 14) ⊎ ((status ≡ 9) ⊎ (status ≡ 5))
 
 -- it was refused, so that it wasn't done
 abbrev pub IsRefused : ℕ → Type 0
@@ -225,6 +233,7 @@ module _ {I O D : Type 0} (c : Sides I O D) where
     pub run_refused : RunIsExact c.words source_of disk_of status
     pub nothing_there : NothingIsThere c.words source_of disk_of status
     pub soundness : SoundnessIsExact c.words source_of disk_of status
+    pub live : LiveIsExact c.words source_of disk_of status
     pub archive_fault : ArchiveFaultIsExact c.words source_of disk_of status
     -- Refused: the files hold what they held, or what the command says of a stop after its first write.
     pub unwritten : IsRefused status → IsUnwritten c.words source_of disk_of status

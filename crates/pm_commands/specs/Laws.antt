@@ -3,8 +3,9 @@
 -- script runs to one end.
 use Rattle.std.specs.Prelude.{◌≡◌, ℕ, List, None}
 use Rattle.pcp_base.specs.Time.{Moment}
-use Rattle.pcp_model.specs.Archive.{Readable}
+use Rattle.pcp_model.specs.Archive.{ArchiveContents, IsArchive, Readable}
 use Rattle.pcp_model.specs.Disk.{Files}
+use Rattle.pcp_model.specs.Recovered.{IsRecovered}
 use Rattle.pcp_model.specs.Sound.{Sound}
 use Rattle.logging_session.specs.Events.{Event}
 use Rattle.run_script.specs.declared.script.Script.{Script}
@@ -31,6 +32,8 @@ use Rattle.pm_tasks.specs.commands.dump as dump
 use Rattle.pm_tasks.specs.commands.info as info
 use Rattle.pm_tasks.specs.commands.range as range
 use Rattle.pm_runs.specs.commands.recover as recover
+use Rattle.pm_runs.specs.commands.retire as retire
+use Rattle.pm_runs.specs.commands.retire.{IsCurrent}
 use Rattle.pm_tasks.specs.commands.value as value
 
 pub record IsWelcome (f : Found) : Type 0 where
@@ -53,6 +56,10 @@ pub record IsWelcomeByTime (f : Found) : Type 0 where
 -- by time, but where `at` finds no item, nor by `check`. Of a sound archive this logger, and each stop of it, leaves such files.
 abbrev pub SoundIsWelcome : Type 0
 SoundIsWelcome = (f : Found) → Readable f.files → RecoversSound f.files → f.wrapped ≡ None → IsWelcomeByTime f
+
+-- An archive is turned away by no `retire` whose number is at most the current volume that recovery would leave, unless a file stands wrapped.
+abbrev pub RetiringIsWelcome : Type 0
+RetiringIsWelcome = (f : Found) (c : ArchiveContents) (left : Files) (current below : ℕ) → IsArchive f.files c → IsRecovered f.files c left → IsCurrent left current → below ≤ current → f.wrapped ≡ None → (e : Refusal) → retire.IsTurnedAway below f e → ⊥
 
 -- They are sound before recovery too: so what such a command writes of them is the scan's.
 abbrev pub SoundBeforeRecovery : Type 0

@@ -1,7 +1,7 @@
 -- The meaning of each command. Where a new one goes: its variant and its words in pm_words, its meaning here, its body in `serve`.
 use Rattle.std.specs.Prelude.{Bool, true, [], None}
 use Rattle.pm_words.specs.declared.words.Command.{Command}
-use Rattle.pm_words.specs.declared.words.Command.TheVariants.{Once, Replay, Make, MmvMake, MmvDump, MmvLift, Dump, Info, Check, Recover, At, Range, Value, Record, Serve}
+use Rattle.pm_words.specs.declared.words.Command.TheVariants.{Once, Replay, Make, Retire, MmvMake, MmvDump, MmvLift, Dump, Info, Check, Recover, At, Range, Value, Record, Serve}
 use Rattle.pm_words.specs.Meaning.{Meaning, converts}
 use Rattle.pm_tasks.specs.commands.at.{at}
 use Rattle.pm_tasks.specs.commands.check.{check}
@@ -15,6 +15,7 @@ use Rattle.pm_runs.specs.commands.once.{once}
 use Rattle.pm_runs.specs.commands.recover.{recover}
 use Rattle.pm_tasks.specs.commands.range.{range}
 use Rattle.pm_runs.specs.commands.replay.{replay}
+use Rattle.pm_runs.specs.commands.retire.{retire}
 use Rattle.pm_tasks.specs.commands.value.{value}
 
 -- a command of another call, for which this one is never asked
@@ -25,6 +26,7 @@ abbrev pub meaning : Command → Meaning
 meaning (Once asked) = once asked
 meaning (Replay volume) = replay volume
 meaning (Make asked) = make asked
+meaning (Retire below) = retire below
 meaning MmvMake = mmv_make
 meaning MmvDump = mmv_dump
 meaning MmvLift = mmv_lift

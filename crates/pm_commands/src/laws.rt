@@ -1,5 +1,5 @@
 //! Laws of the commands' meanings. Each is the contract of a function without parameters, which does nothing.
-ghost use Rattle.pm_commands.specs.Laws.{DoneIsWelcome, MadeRunsOn, OneEnd, ReadableIsWelcome, SoundBeforeRecovery, SoundIsWelcome};
+ghost use Rattle.pm_commands.specs.Laws.{DoneIsWelcome, MadeRunsOn, OneEnd, ReadableIsWelcome, RetiringIsWelcome, SoundBeforeRecovery, SoundIsWelcome};
 
 /// A readable archive of which no file stands wrapped is turned away by no command that reads it whole, nor by
 /// recovery.
@@ -11,6 +11,12 @@ pub fn readable_is_welcome()
 /// by time, but where `at` finds no item, nor by `check`. Such files are what a stop leaves of a sound archive, before recovery and after it.
 pub fn sound_is_welcome()
     ensures { SoundIsWelcome }
+{}
+
+/// An archive of which no file stands wrapped is turned away by no `retire` whose number is at most the current volume that recovery would
+/// leave.
+pub fn retiring_is_welcome()
+    ensures { RetiringIsWelcome }
 {}
 
 /// Readable files that recovery would leave sound are sound before it: so what `at` and `range` write of them is the scan's.

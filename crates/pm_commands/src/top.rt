@@ -12,7 +12,7 @@ ghost use Rattle.pm_commands.specs.Running.{Runs};
 
 use pcp_base::Bytes;
 use pcp_outside::{Disk, Sink, Source};
-use pm_runs::{make, once, recover, replay};
+use pm_runs::{make, once, recover, replay, retire};
 use pm_tasks::{at, check, dump, info, mmv_dump, mmv_lift, mmv_make, range, value};
 use pm_words::{Call, Command, Refusal, ask, tell_end};
 use run_passes::Opened;
@@ -27,6 +27,7 @@ pub fn writes_archive(command: &Command) -> bool
         Command::Once(_)
             | Command::Replay(_)
             | Command::Make(_)
+            | Command::Retire(_)
             | Command::Recover
             | Command::Record(_)
     )
@@ -53,6 +54,7 @@ fn serve<O: Sink, D: Disk>(
         Command::Once(asked) => once(alloc, asked, input, disk, opened),
         Command::Replay(volume) => replay(alloc, *volume, input, out, failed, disk, opened),
         Command::Make(asked) => make(alloc, asked, disk, opened),
+        Command::Retire(below) => retire(alloc, *below, disk),
         Command::MmvMake => mmv_make(alloc, input),
         Command::MmvDump => mmv_dump(alloc, input),
         Command::MmvLift => mmv_lift(alloc, input),
@@ -93,7 +95,8 @@ fn run<I: Source, O: Sink, D: Disk>(
 /// input is above 16 MiB, a script has too many regions, a tick asks for too many metrics, or a record or a file would be too long.
 /// 9: memory was refused: the files stand as they did, or as recovery or some first lines of the run left them, or the archive as
 /// it was opened. 10: the archive was read, and isn't sound. 11: nothing is there at the moment that was asked for. 12: a result
-/// isn't later than all that the archive has. 13: the archive describes a metric otherwise. What is looked at first comes first: the words, the input, the recovery of the
+/// isn't later than all that the archive has. 13: the archive describes a metric otherwise. 14: the number of `retire` is
+/// above the archive's current volume, or the archive has no label: no volume was emptied, and the files are as recovery leaves them. What is looked at first comes first: the words, the input, the recovery of the
 /// disk, the run, the output. `opened` is `None` before; a command that runs a script leaves there the regions on which it ran.
 pub fn offline<I: Source, O: Sink, D: Disk>(
     alloc: Global,

@@ -28,7 +28,7 @@ counted : (left : Files) (r : ArchiveReading) (a : Archive) → IsToldOf left r 
 counted left ArchiveReading.nothing a told = told.no_items
 counted left (ArchiveReading.archive c) a told = told.counted
 
-all_settled : (held : Holdings) → ((file : FileId) → (held file).rest ≡ []) → IsSettled held
+pub all_settled : (held : Holdings) → ((file : FileId) → (held file).rest ≡ []) → IsSettled held
 all_settled held sure = record { meta = sure _; index = inr (sure _); volumes = λ k. sure _ }
 
 never_turned : (f : Found) (e : Refusal) → f.wrapped ≡ None → IsNever e → IsTurnedAway f e → ⊥

@@ -2,3 +2,4 @@ pub mod make
 pub mod once
 pub mod recover
 pub mod replay
+pub mod retire

@@ -4,3 +4,4 @@ pub(crate) mod make;
 pub(crate) mod once;
 pub(crate) mod recover;
 pub(crate) mod replay;
+pub(crate) mod retire;

@@ -7,7 +7,7 @@ use Rattle.text_lines.specs.Numbers.{number_of}
 use Rattle.pm_words.specs.declared.words.Command.{Command}
 use Rattle.pm_words.specs.declared.words.Call.{Call}
 use Rattle.pm_words.specs.declared.words.Call.TheVariants as calls
-use Rattle.pm_words.specs.declared.words.Command.TheVariants.{Once, Replay, Make, MmvMake, MmvDump, MmvLift, Dump, Info, Check, Recover, At, Range, Value, Record, Serve}
+use Rattle.pm_words.specs.declared.words.Command.TheVariants.{Once, Replay, Make, Retire, MmvMake, MmvDump, MmvLift, Dump, Info, Check, Recover, At, Range, Value, Record, Serve}
 use Rattle.pm_words.specs.declared.refusal.Refusal.{Refusal}
 use Rattle.pm_words.specs.declared.refusal.Refusal.TheVariants.{Usage, NoMemory}
 use Rattle.pm_words.specs.declared.words.BadWord.{BadWord}
@@ -96,6 +96,12 @@ make_of words = do
   volume ← word_then volume_of 3 ticks.1
   end_then (Make record { number = number.0; ticks = ticks.0; volume = volume.0 }) 4 volume.1
 
+-- N, below which volumes are emptied
+unfoldable pub retire_of : List (List ℕ) → Result Command ℕ
+retire_of words = do
+  below ← word_then (number_in 0 10000) 1 words
+  end_then (Retire below.0) 2 below.1
+
 -- SEC USEC, from the word at an index on
 unfoldable pub stamp_then : ℕ → List (List ℕ) → Result (Moment × List (List ℕ)) ℕ
 stamp_then at words = do
@@ -143,12 +149,13 @@ timed_command_of word words =
     if bytes_eq word (codes "range") then range_of words else
     if bytes_eq word (codes "value") then value_of words else archive_command_of word words
 
--- those that run something over an archive
+-- those that run something over an archive, or let old volumes of it go
 abbrev pub run_command_of : List ℕ → List (List ℕ) → Result Command ℕ
 run_command_of word words =
     if bytes_eq word (codes "once") then once_of words else
     if bytes_eq word (codes "replay") then replay_of words else
-    if bytes_eq word (codes "make") then make_of words else timed_command_of word words
+    if bytes_eq word (codes "make") then make_of words else
+    if bytes_eq word (codes "retire") then retire_of words else timed_command_of word words
 
 -- SAMPLES VOLUME; as many samples may be taken as ticks are made
 unfoldable pub record_of : List (List ℕ) → Result Command ℕ
@@ -210,6 +217,7 @@ abbrev pub FitsCommand : Command → Type 0
 FitsCommand (Once asked) = (length asked.file ≤ 63) × IsComponent asked.file
 FitsCommand (Replay volume) = (1024 ≤ volume) × (volume ≤ 1073741824)
 FitsCommand (Make asked) = (1 ≤ asked.ticks) × (asked.ticks ≤ 100000) × (1024 ≤ asked.volume) × (asked.volume ≤ 1073741824)
+FitsCommand (Retire below) = below ≤ 10000
 FitsCommand (Record asked) = (1 ≤ asked.samples) × (asked.samples ≤ 100000) × (1024 ≤ asked.volume) × (asked.volume ≤ 1073741824)
 FitsCommand (Serve count) = (1 ≤ count) × (count ≤ 100000)
 FitsCommand _ = Unit {0}

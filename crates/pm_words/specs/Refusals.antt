@@ -20,7 +20,7 @@ use Rattle.script_runs.specs.declared.ending.Ending.TheVariants as ends
 use Rattle.script_runs.specs.declared.ending.LimitKind.{LimitKind}
 use Rattle.script_runs.specs.declared.ending.LimitKind.TheVariants as kinds
 use Rattle.pm_words.specs.declared.refusal.Refusal.{Refusal}
-use Rattle.pm_words.specs.declared.refusal.Refusal.TheVariants.{Usage, ReadFault, InputLimit, Image, Line, Script, Condition, Limit, NotLater, Changed, Compressed, NotArchive, Nothing, UnsoundItems, UnsoundBoundary, UnsoundLate, DiskFault, ClockEnd, ClockFault, Accept, NoMemory}
+use Rattle.pm_words.specs.declared.refusal.Refusal.TheVariants.{Usage, ReadFault, InputLimit, Image, Line, Script, Condition, Limit, NotLater, Changed, Compressed, NotArchive, Nothing, UnsoundItems, UnsoundBoundary, UnsoundLate, Live, DiskFault, ClockEnd, ClockFault, Accept, NoMemory}
 
 -- of a script that has too many regions the limit is told
 abbrev pub script_status : ScriptLineFault → ℕ
@@ -44,6 +44,7 @@ status_of (Nothing stamp) = 11
 status_of (UnsoundItems first second) = 10
 status_of (UnsoundBoundary entry file below above) = 10
 status_of (UnsoundLate entry stamp) = 10
+status_of (Live volume) = 14
 status_of DiskFault = 5
 status_of (ClockEnd left) = 8
 status_of (ClockFault left) = 20
@@ -88,6 +89,7 @@ line_of (UnsoundItems first second) =
 line_of (UnsoundBoundary entry file below above) =
     codes "unsound boundary " ++ (decimal entry ++ (32 ∷ (file_name file ++ (32 ∷ (decimal below ++ (32 ∷ (decimal above ++ 10 ∷ [])))))))
 line_of (UnsoundLate entry stamp) = codes "unsound late " ++ (decimal entry ++ (32 ∷ (decimal stamp.sec ++ (32 ∷ (decimal stamp.usec ++ 10 ∷ [])))))
+line_of (Live volume) = codes "live " ++ (decimal volume ++ 10 ∷ [])
 line_of DiskFault = codes "disk fault\n"
 line_of (ClockEnd left) = codes "clock end " ++ (decimal left ++ 10 ∷ [])
 line_of (ClockFault left) = codes "clock fault " ++ (decimal left ++ 10 ∷ [])

@@ -1,7 +1,7 @@
 //! The last lines of refusals that have a number or a name.
 ghost use Rattle.std.specs.Prelude.{◌≡◌, IfOk, string_bytes};
 ghost use Rattle.pm_words.specs.Refusals.{file_name, limit_name, line_of, script_line, script_status};
-ghost use Rattle.pm_words.specs.declared.refusal.Refusal.TheVariants.{Changed, ClockEnd, ClockFault, Compressed, Limit, NotArchive, NotLater, Nothing, UnsoundBoundary, UnsoundItems, UnsoundLate, Usage};
+ghost use Rattle.pm_words.specs.declared.refusal.Refusal.TheVariants.{Changed, ClockEnd, ClockFault, Compressed, Limit, Live, NotArchive, NotLater, Nothing, UnsoundBoundary, UnsoundItems, UnsoundLate, Usage};
 
 use pcp_base::{Bytes, FileId, List, NoMemory, Pmid, Stamp};
 use pm_print::line_fault_text;
@@ -152,6 +152,13 @@ pub(crate) fn unsound_late_line(alloc: Global, entry: u64, stamp: Stamp) -> Resu
     let sec = stamp.sec();
     let usec = stamp.usec();
     let line = format!(in alloc; "unsound late {entry} {sec} {usec}\n")?;
+    Ok(List::from_vec(line.into_bytes()))
+}
+
+pub(crate) fn live_line(alloc: Global, volume: u32) -> Result<Bytes, NoMemory>
+    ensures { IfOk result (λ line. line ≡ line_of (Live volume)) }
+{
+    let line = format!(in alloc; "live {volume}\n")?;
     Ok(List::from_vec(line.into_bytes()))
 }
 

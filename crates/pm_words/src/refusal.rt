@@ -3,8 +3,8 @@ ghost use Rattle.std.specs.Prelude.{◌≡◌, IfNone, IfOk, IfSome, OnErr, OnOk
 ghost use Rattle.pm_words.specs.Refusals.{IsNumbered, Wrote, ending_refusal, line_of, status_of};
 
 use crate::lines::{
-    changed_line, clock_end_line, clock_fault_line, compressed_line, limit_line, misfit_line,
-    not_later_line, nothing_line, script_line, script_status, unsound_boundary_line,
+    changed_line, clock_end_line, clock_fault_line, compressed_line, limit_line, live_line,
+    misfit_line, not_later_line, nothing_line, script_line, script_status, unsound_boundary_line,
     unsound_items_line, unsound_late_line, usage_line,
 };
 use archive_check::CheckFault;
@@ -83,6 +83,10 @@ pub enum Refusal {
     UnsoundLate {
         entry: u64,
         stamp: Stamp,
+    },
+    /// The number of `retire` is above the archive's current volume, which is this one, or the archive has no label (0).
+    Live {
+        volume: u32,
     },
     /// The disk failed.
     DiskFault,
@@ -184,7 +188,7 @@ pub fn of_ending(ending: Ending) -> Option<Refusal>
 }
 
 impl Refusal {
-    /// The exit status: 1 to 3, 5 to 13, 20 or 21. Of a sink that fails (4) nothing can be told.
+    /// The exit status: 1 to 3, 5 to 14, 20 or 21. Of a sink that fails (4) nothing can be told.
     pub fn status(&self) -> u8
         ensures { result ≡ status_of self.now }
     {
@@ -204,6 +208,7 @@ impl Refusal {
             Refusal::Nothing { .. } => 11,
             Refusal::NotLater { .. } => 12,
             Refusal::Changed { .. } => 13,
+            Refusal::Live { .. } => 14,
             Refusal::ClockFault { .. } => 20,
             Refusal::Accept => 21,
         }
@@ -251,6 +256,7 @@ impl Refusal {
                 above,
             } => unsound_boundary_line(alloc, *entry, *file, *below, *above),
             Refusal::UnsoundLate { entry, stamp } => unsound_late_line(alloc, *entry, *stamp),
+            Refusal::Live { volume } => live_line(alloc, *volume),
             Refusal::ClockEnd { left } => clock_end_line(alloc, *left),
             Refusal::ClockFault { left } => clock_fault_line(alloc, *left),
             // Their lines have no number.

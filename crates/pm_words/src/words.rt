@@ -3,7 +3,7 @@ ghost use Rattle.std.specs.Prelude.{◌≡◌, ◌<◌, ◌≤◌, if◌then◌e
 ghost use Rattle.pcp_base.specs.Names.{IsComponent};
 ghost use Rattle.pcp_base.specs.Texts.{IsText};
 ghost use Rattle.pcp_base.specs.Time.{IsMoment};
-ghost use Rattle.pm_words.specs.CommandLine.{Reads, Gives, FitsCommand, asked_by, call_named, call_of, run_command_of, end_then, number_in, volume_of, once_of, replay_of, make_of, image_command_of, archive_command_of, timed_command_of, stamp_then, at_of, range_of, value_of, second_of, microsecond_of, file_of, begins_with_dash, name_of, record_of, serve_of, takes_input, word_then};
+ghost use Rattle.pm_words.specs.CommandLine.{Reads, Gives, FitsCommand, asked_by, call_named, call_of, run_command_of, end_then, number_in, volume_of, once_of, replay_of, make_of, retire_of, image_command_of, archive_command_of, timed_command_of, stamp_then, at_of, range_of, value_of, second_of, microsecond_of, file_of, begins_with_dash, name_of, record_of, serve_of, takes_input, word_then};
 ghost use Rattle.pm_words.specs.declared.words.Call.TheVariants as calls;
 
 use crate::refusal::Refusal;
@@ -20,6 +20,8 @@ pub enum Command {
     Replay(u64),
     /// `make NUMBER TICKS VOLUME`: run the script that a number makes.
     Make(MakeWords),
+    /// `retire N`: empty the volumes below a number, 10,000 at most.
+    Retire(u32),
     /// `mmv-make`: make the image of a layout text.
     MmvMake,
     /// `mmv-dump`: write the layout text of an image.
@@ -250,6 +252,17 @@ fn make_words(words: &[String]) -> Result<Command, BadWord>
     }))
 }
 
+#[tactic(auto, unfolding(crate::specs::CommandLine::retire_of))]
+fn retire_words(words: &[String]) -> Result<Command, BadWord>
+    ensures command { Gives (λ command. command) result (retire_of (map string_bytes words.now)) }
+    ensures fits { IfOk result FitsCommand }
+    ensures call { IfOk result (λ command. call_of command ≡ calls.Offline) }
+{
+    let (below, rest) = number_at(words, 1, 0, 10_000)?;
+    end_at(rest, 2)?;
+    Ok(Command::Retire(below as u32))
+}
+
 #[tactic(auto, unfolding(crate::specs::CommandLine::once_of))]
 fn once_words(alloc: Global, words: &[String]) -> Result<Command, Refusal>
     ensures command { Reads result (once_of (map string_bytes words.now)) }
@@ -430,7 +443,7 @@ fn timed_words(alloc: Global, name: &[u8], words: &[String]) -> Result<Command, 
     Ok(command)
 }
 
-// A command that runs something over an archive, or another.
+// A command that runs something over an archive or lets old volumes of it go, or another.
 fn run_words(alloc: Global, name: &[u8], words: &[String]) -> Result<Command, Refusal>
     ensures command { Reads result (run_command_of name.now (map string_bytes words.now)) }
     ensures fits { IfOk result FitsCommand }
@@ -445,6 +458,10 @@ fn run_words(alloc: Global, name: &[u8], words: &[String]) -> Result<Command, Re
     }
     if name == b"make".as_slice() {
         let command = make_words(words)?;
+        return Ok(command);
+    }
+    if name == b"retire".as_slice() {
+        let command = retire_words(words)?;
         return Ok(command);
     }
     timed_words(alloc, name, words)

@@ -29,6 +29,9 @@ returns-in-Check g c = record { meets = without_regions g.O.Sink c.args.out.now 
 pub returns-in-Recover : goal.returns-in-Recover
 returns-in-Recover g c = record { meets = without_regions g.O.Sink c.args.out.now c.args.failed.now c.requires.fresh c.args.input.now g.D.Disk c.args.disk.now c.recover.new.disk c.args.opened.now c.recover.result _ c.args.command.now c.in-Recover.is c.requires.closed (c.recover.ensures.meets c.args.input.now) }
 
+pub returns-in-Retire : goal.returns-in-Retire
+returns-in-Retire g c = record { meets = without_regions g.O.Sink c.args.out.now c.args.failed.now c.requires.fresh c.args.input.now g.D.Disk c.args.disk.now c.retire.new.disk c.args.opened.now c.retire.result _ c.args.command.now c.in-Retire.is c.requires.closed (c.retire.ensures.meets c.args.input.now) }
+
 pub returns-in-At : goal.returns-in-At
 returns-in-At g c = record { meets = without_regions g.O.Sink c.args.out.now c.args.failed.now c.requires.fresh c.args.input.now g.D.Disk c.args.disk.now c.at.new.disk c.args.opened.now c.at.result _ c.args.command.now c.in-At.is c.requires.closed (c.at.ensures.meets c.args.input.now) }
 
