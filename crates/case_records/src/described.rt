@@ -1,10 +1,11 @@
 //! Whether an archive's metadata describe an item.
 use archive_meta::MetaState;
-use pcp_base::{Body, InDom, Item, Stamp, Text, ValueSet};
+use pcp_base::{Body, InDom, Item, Stamp, ValueSet};
+use pcp_model::DomainInstances;
 
-fn has_name(names: &[(i32, Text)], instance: i32) -> bool {
-    for name in names {
-        if name.0 == instance {
+fn has_name(listed: &DomainInstances, instance: i32) -> bool {
+    for at in 0..listed.len() {
+        if listed.number(at) == Some(instance) {
             return true;
         }
     }
@@ -12,18 +13,18 @@ fn has_name(names: &[(i32, Text)], instance: i32) -> bool {
 }
 
 // Whether each of the instances has a name among these.
-fn are_named(names: &[(i32, Text)], body: &Body) -> bool {
+fn are_named(listed: &DomainInstances, body: &Body) -> bool {
     match body {
         Body::InPlace(pairs) => {
             for pair in pairs.as_slice() {
-                if !has_name(names, pair.0) {
+                if !has_name(listed, pair.0) {
                     return false;
                 }
             }
         }
         Body::Blocks(pairs) => {
             for pair in pairs.as_slice() {
-                if !has_name(names, pair.0) {
+                if !has_name(listed, pair.0) {
                     return false;
                 }
             }
@@ -44,7 +45,7 @@ fn is_described_set(meta: &MetaState, at: Stamp, set: &ValueSet) -> bool {
         return true;
     }
     match meta.domain_at(desc.indom, at) {
-        Some(names) => are_named(names.as_slice(), &set.body),
+        Some(listed) => are_named(listed, &set.body),
         None => false,
     }
 }

@@ -3,6 +3,7 @@ use crate::facts::{desc_of, tell_needs};
 use archive_meta::{MetaFault, MetaState, domain_stamp, put_description, put_domain};
 use case_book::{Words, text_of};
 use pcp_base::{Desc, InDom, List, NoMemory, Stamp, Text};
+use pcp_model::DomainInstances;
 use std::alloc::Global;
 
 fn tell_added(alloc: Global, added: Result<(), MetaFault>) -> Result<String, NoMemory> {
@@ -57,20 +58,22 @@ fn tell_names(alloc: Global, found: Option<&List<Text>>) -> Result<String, NoMem
     Ok(out)
 }
 
-fn write_instance(out: &mut String, number: i32, name: &Text) -> Result<(), NoMemory> {
+fn write_instance(out: &mut String, number: i32, name: &[u8]) -> Result<(), NoMemory> {
     write!(out, "{number} ")?;
-    case_book::write_text(out, name.as_slice())?;
+    case_book::write_text(out, name)?;
     out.push('\n')?;
     Ok(())
 }
 
-fn tell_instances(alloc: Global, found: Option<&List<(i32, Text)>>) -> Result<String, NoMemory> {
-    let Some(pairs) = found else {
+fn tell_instances(alloc: Global, found: Option<&DomainInstances>) -> Result<String, NoMemory> {
+    let Some(listed) = found else {
         return Ok(String::from_str(alloc, "none\n")?);
     };
     let mut out = String::new(alloc);
-    for (number, name) in pairs.as_slice() {
-        write_instance(&mut out, *number, name)?;
+    for at in 0..listed.len() {
+        if let Some((number, name)) = listed.get(at) {
+            write_instance(&mut out, number, name)?;
+        }
     }
     Ok(out)
 }
