@@ -2,7 +2,7 @@
 use Rattle.std.proofs.Common.{◌≡◌, ◌≢◌, inl, inr, ℕ, List, [], ◌∷◌, ◌++◌, Bool, Option, Some, refl, sym, ap, ◌∙◌, subst}
 use Rattle.std.proofs.Math.Path.{fun_ext}
 use Rattle.std.proofs.lemmas.Option.{none-some, same_Some}
-use Rattle.pcp_base.specs.Time.{Moment, IsMoment}
+use Rattle.pcp_base.specs.Time.{Moment}
 use Rattle.pcp_model.specs.declared.records.MetaRecord.{MetaRecord}
 use Rattle.pcp_model.specs.Archive.{ArchiveContents, IsArchive}
 use Rattle.pcp_model.specs.Disk.{Files}
@@ -17,11 +17,11 @@ use Rattle.logger_core.specs.declared.fault.LogFault.{LogFault}
 use Rattle.logger_core.specs.declared.fault.LogFault.TheVariants as faults
 use Rattle.logger_core.specs.Logging.{IsRefused}
 use Rattle.logger_core.specs.LogSteps.{LogStep, base_files, base_number, with_run}
-use Rattle.logger_core.specs.Steps.{FlushStep, IsStampIn, greatest_in, has_item}
+use Rattle.logger_core.specs.Steps.{FlushStep, greatest_in, has_item}
 use Rattle.logging_session.specs.Course.{LeadsTo}
 use Rattle.logging_session.specs.Events.{Event, Lead, LeadFrom, Steps, opening}
 use Rattle.logging_session.specs.Written.{EndsAre, Flushes, Logs, Opens, OpensFound, Refuses, Report, Stand, Written, files_of, starting}
-use Rattle.logging_session.proofs.OneReason.{archive_timely, last_number, no_archive, none_stamped, not_refused, one_contents, one_ends, one_missing, one_refusal}
+use Rattle.logging_session.proofs.OneReason.{last_number, no_archive, not_refused, one_contents, one_ends, one_missing, one_refusal}
 use Rattle.script_runs.specs.declared.ending.Ending.{Ending}
 use Rattle.script_runs.specs.Archives.{IsTurnedAway, ending_of, report_of, run_label}
 
@@ -52,26 +52,21 @@ one_open l left a b (x, w) (y, v) =
     let same = one_found l left a b x y in
     same_written a b same.0 same.1 (one_volume a.files a.contents a.volume b.volume w (last_as a b same.0 same.1 v))
 
--- its stamps are moments, and this is its last volume
-record IsGood (w : Written) : Type 0 where
-  timely : (t : Moment) → IsStampIn w.contents t → IsMoment t
-  whole : EndsWhole w.files w.contents w.volume
+-- this is its last volume
+abbrev IsGood : Written → Type 0
+IsGood w = EndsWhole w.files w.contents w.volume
 
 abbrev Good : Stand → Type 0
 Good (Stand.found left) = Unit {0}
 Good (Stand.opened w) = IsGood w
 
-found_timely : (l : LabelFields) (left : Files) (w : Written) → OpensFound l left w.files w.contents → (t : Moment) → IsStampIn w.contents t → IsMoment t
-found_timely l left w (inl x) t is = absurd (none_stamped l t (subst (λ (c : ArchiveContents). IsStampIn c t) x.2 is))
-found_timely l left w (inr x) t is = archive_timely left w.contents x.1 t is
-
 opens_good : (l : LabelFields) (left : Files) (w : Written) → Opens l left w → IsGood w
-opens_good l left w (x, v) = record { timely = found_timely l left w x; whole = v }
+opens_good l left w (x, v) = v
 
 -- what a logger keeps of it in numbers is one
 one_count : (w : Written) → IsGood w → (a b : Ends) → EndsAre w a → EndsAre w b → a ≡ b
 one_count w good a b x y =
-    one_ends w.files w.contents good.timely a b x.are y.are (subst (λ (n : ℕ). EndsWhole w.files w.contents n) (sym x.volume) good.whole) (subst (λ (n : ℕ). EndsWhole w.files w.contents n) (sym y.volume) good.whole)
+    one_ends w.files w.contents a b x.are y.are (subst (λ (n : ℕ). EndsWhole w.files w.contents n) (sym x.volume) good) (subst (λ (n : ℕ). EndsWhole w.files w.contents n) (sym y.volume) good)
 
 -- ---- a result is logged in one way, or refused for one reason
 
@@ -107,7 +102,7 @@ module _ (limit : ℕ) (r : Report) (old : Written) (good : IsGood old) where
       (subst (λ (e : Ends). IsRefused old.contents.records e limit r.result r.facts b) (sym (one_count old good x.ends y.ends x.ends_are y.ends_are)) y.refused)
 
 logs_good : (limit : ℕ) (r : Report) (old new : Written) → Logs limit r old new → IsGood new
-logs_good limit r old new x = record { timely = archive_timely new.files new.contents x.is; whole = x.last }
+logs_good limit r old new x = x.last
 
 -- ---- a flush makes one thing of it
 
@@ -123,7 +118,7 @@ one_flush old a b x y =
     same_written a b files (one_contents a.files a.contents b.contents x.is (subst (λ (fs : Files). IsArchive fs b.contents) (sym files) y.is)) (x.volume ∙ sym y.volume)
 
 flush_good : (old new : Written) → Flushes old new → IsGood new
-flush_good old new x = record { timely = archive_timely new.files new.contents x.is; whole = x.last }
+flush_good old new x = x.last
 
 -- ---- events lead to one archive
 
