@@ -29,9 +29,11 @@ REFUSALS = {
     5: rb"disk fault",
     6: rb"(compressed " + FILE + rb"|not archive " + FILE + rb" #)",
     7: rb"limit (input 16777217|regions 65|(sets|record|meta|index) #|volume 10000)",
+    10: rb"unsound (items # # # #|boundary # " + FILE + rb" # #|late # # #)",
     11: rb"nothing at # #",
     12: rb"not later # #",
     13: rb"changed #\.#\.#",
+    14: rb"live #",
 }
 REFUSALS = {status: re.compile(line.replace(b"#", NUMBER)) for status, line in REFUSALS.items()}
 
@@ -46,9 +48,12 @@ ROWS = {
     "once": (rb"logged [01]", rb"logged [01]"),
     "replay": (OUTCOME, rb"logged " + NUMBER),
     "recover": (rb"items " + NUMBER, rb"items " + NUMBER),
+    "retire": (rb"retired " + NUMBER, rb"retired " + NUMBER),
+    "check": (rb"sound " + NUMBER, rb"sound " + NUMBER),
 }
 TEXTS = {
     "mmv-make": rb"MMV\0.*",
+    "mmv-lift": rb"MMV\0.*",
     "dump": rb"archive none\n|archive " + NUMBER + rb" .*\n",
     "info": rb"(|[^\0]* [0-9]+\.[^\0]*\n)",
     "at": ITEM + rb"\n(" + SET + rb"\n)?",
@@ -221,7 +226,7 @@ class Worker:
 def judge(command, status, said):
     """A failure unless this is an answer of the command."""
     lines = said.split(b"\n")
-    if said and lines.pop() != b"" and command != "mmv-make":
+    if said and lines.pop() != b"" and command not in ("mmv-make", "mmv-lift"):
         raise Failed(f"status {status}, unfinished {said[-80:]!r}")
     if status:
         if status not in REFUSALS or not lines or not REFUSALS[status].fullmatch(lines[-1]):
@@ -253,11 +258,12 @@ def prepared(worker):
         assert status == 0, said
         archives.append(worker.files())
     worker.lay({})
-    return {"images": [make(bare), make(LAYOUT)], "archives": archives}
+    texts = [bare, LAYOUT, bare.replace(b"mmv 1", b"mmv 2"), LAYOUT.replace(b"mmv 1", b"mmv 2")]
+    return {"images": [make(text) for text in texts], "archives": archives}
 
 
-READS = [("dump",), ("info",), ("at", "101", "0"), ("at", "121", "500000"), ("range", "100", "0", "110", "0"), ("value", "200", "0", "mmv.app.hits"), ("value", "200", "0", "mmv.app.per"), ("recover",)]
-IMAGES = [("mmv-dump",), ("once", "200", "0", "app"), ("once", "90", "0", "web")]
+READS = [("dump",), ("info",), ("at", "101", "0"), ("at", "121", "500000"), ("range", "100", "0", "110", "0"), ("value", "200", "0", "mmv.app.hits"), ("value", "200", "0", "mmv.app.per"), ("check",), ("recover",), ("retire", "1")]
+IMAGES = [("mmv-dump",), ("mmv-lift",), ("once", "200", "0", "app"), ("once", "90", "0", "web")]
 
 
 def try_image(worker, inputs, chance):

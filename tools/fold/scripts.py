@@ -12,8 +12,8 @@ from images import Image, RANGES, TOP, quoted
 from plain_fold import Archive, Fold
 
 NAMES = ['hits', 'per', 'load.one', 'load.two', 'state', 'misses', 'depth_2', 'Z', 'a.b.c', 'wait', 'app', 'web']
-# versions of layouts that scripts hold; add 2 once the program reads it
-VERSIONS = [1]
+# versions of layouts that scripts hold
+VERSIONS = [1, 2]
 TEXTS = ['on', 'off', 'busy', 'a "b" \\', 'line\nend', 'caf\xe9', '', 'a longer text of some words']
 
 
