@@ -26,7 +26,7 @@ use Rattle.logger_core.proofs.WithoutRecovered.{is_recovered as retired_is_recov
 use Rattle.logger_core.proofs.WithoutSound.{is_read as retired_is_read}
 use Rattle.logging_session.proofs.ComeBack.{same_left}
 use Rattle.pm_words.specs.Sound.{RecoversSound}
-use Rattle.pm_runs.specs.commands.retire.{IsPartlyRetired, scan_from}
+use Rattle.pm_runs.specs.commands.retire.{IsPartlyRetired, Standing, scan_from}
 
 -- ---- no volume is below 0
 
@@ -114,10 +114,6 @@ module _ (files left : Files) (c : ArchiveContents) (is : IsArchive files c) (r 
 
 -- ---- the lowest volumes of what recovery leaves are empty
 
--- a volume that isn't among them has its label
-abbrev pub Standing : Files → ℕ → Type 0
-Standing left from = (from ≡ 0) ⊎ ((n : ℕ) × (from ≤ n) × (132 ≤ length (left (Volume n))))
-
 -- What is left is read so, and recovery changes nothing of it.
 pub record IsEmptied (files : Files) (r : ArchiveReading) (left : Files) (from : ℕ) (image : Files) : Type 0 where
   pub new : ArchiveReading
@@ -202,6 +198,7 @@ module _ (below : ℕ) (files left : Files) (r : ArchiveReading) (reads : Reads 
       let on : IsReadOn image r = reads_on files image r reads halfway in record {
         from = 0;
         most = omega arith;
+        standing = inl refl;
         before = image;
         halfway = halfway;
         is = λ file. sym (without_none image file);
@@ -218,6 +215,7 @@ module _ (below : ℕ) (files left : Files) (r : ArchiveReading) (reads : Reads 
       let e : IsEmptied files r left from image = emptied_is files left r from image reads recovers standing is in record {
         from = from;
         most = most;
+        standing = standing;
         before = left;
         halfway = halfway;
         is = is;

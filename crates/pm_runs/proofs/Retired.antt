@@ -35,9 +35,9 @@ use Rattle.pm_words.proofs.Coherent.{IsCoherent}
 use Rattle.pm_words.proofs.Sending.{rose_later}
 use Rattle.pm_words.proofs.Serving.{left_alone}
 use Rattle.pm_runs.specs.commands.recover.{IsMendedSide}
-use Rattle.pm_runs.specs.commands.retire.{EmptyingStops, HasGoneOn, IsCurrent, IsEmptying, IsLiveAs, IsRetiredSide, IsToldLive, IsTurnedAway, IsWithoutSome, KeepsRetired, MayBeRetiring, StandsAt, Went, retire, retired_line}
+use Rattle.pm_runs.specs.commands.retire.{EmptyingStops, HasGoneOn, IsCurrent, IsLiveAs, IsRetiredSide, IsToldLive, IsTurnedAway, IsWithoutSome, KeepsRetired, MayBeRetiring, Standing, StandsAt, Went, retire, retired_line}
 use Rattle.pm_runs.proofs.Coherent.{not_both}
-use Rattle.pm_runs.proofs.Emptied.{IsEmptied, Standing, emptied_is, emptied_partly, filled_is_long, halfway_partly, without_none}
+use Rattle.pm_runs.proofs.Emptied.{IsEmptied, emptied_is, emptied_partly, filled_is_long, halfway_partly, without_none}
 use Rattle.pm_runs.proofs.Mended.{all_settled}
 
 -- ---- laws of its meaning
@@ -106,7 +106,7 @@ sure_emptied held below sure (Volume n) = by_bool (nat_lt n below) (λ (h : Held
 -- ---- each path
 
 not_nothing : {A : Type 0} (archive : Archive) (l : LabelFields) → archive.label ≡ Some l → archive.label ≡ None → A
-not_nothing archive l some none = none-some l (sym none ∙ some)
+not_nothing archive l some none = absurd (none-some l (sym none ∙ some))
 
 module _ {D : Type 0} (g : DiskGhosts D) (below : ℕ) (input : List ℕ) where
   stopped_meets : (a b : D) (e : Refusal) → StopCause (retire below) input (disk_side g a b) e → StandsAt (disk_side g a b) e → (HasRecovered (Err e) → ⊥) → (IsUnread g a → Leaves g a b CrashImage) → Leaves g a b (MayLeave (retire below) input)
@@ -159,7 +159,7 @@ module _ {D : Type 0} (g : DiskGhosts D) (below : ℕ) (input : List ℕ) where
   -- it has mended them
   module _ (now : OnlyNow g) (counts_now : (disk : D) (t : ℕ) (c : Files) → t ≤ g.moment disk → CrashImage (g.held disk) c → g.left_since disk t c) (a mid b : D) (archive : Archive) (moments : Leaves g a mid MayBeHalfway)
       (was : g.tells → WasRecovered (contents_of (g.held a)) (contents_of (g.held mid)) archive) (sure : g.tells → (file : FileId) → (g.held mid file).rest ≡ []) (unwrapped : g.tells → g.wrapped_file a ≡ None)
-      (emptying : g.tells → LeavesOnly g.moment g.left_since mid b (IsEmptying below (contents_of (g.held mid)))) where
+      (emptying : g.tells → LeavesOnly g.moment g.left_since mid b (IsWithoutSome below (contents_of (g.held mid)))) where
     abbrev start : Files
     start = contents_of (g.held a)
 
@@ -173,7 +173,7 @@ module _ {D : Type 0} (g : DiskGhosts D) (below : ℕ) (input : List ℕ) where
     halfway : (t : g.tells) → IsSettled (g.held a) → (r : ArchiveReading) → Reads start r → HalfwayFrom start r left
     halfway t = (moments t).each left (counts_now mid (g.moment a) left (moments t).later (image_now (g.held mid)))
 
-    partly : (t : g.tells) (image : Files) → IsEmptying below left image → MayBeRetiring below (g.held a) image
+    partly : (t : g.tells) (image : Files) → IsWithoutSome below left image → MayBeRetiring below (g.held a) image
     partly t image e = λ settled r reads other recovers.
         let w = was t in
         let same : r ≡ w.reading = one_reading start r w.reading reads w.was in
@@ -184,7 +184,7 @@ module _ {D : Type 0} (g : DiskGhosts D) (below : ℕ) (input : List ℕ) where
     any_moment : Leaves g a b (MayLeave (retire below) input)
     any_moment = λ t.
         joined g.moment g.left_since g.held a mid b (MayLeave (retire below) input (g.held a)) (halfway_leaves a mid moments t)
-        (weaker g.moment g.left_since g.held mid b (IsEmptying below left) (MayLeave (retire below) input (g.held a)) (emptying t) (λ image e. inr (partly t image e)))
+        (weaker g.moment g.left_since g.held mid b (IsWithoutSome below left) (MayLeave (retire below) input (g.held a)) (emptying t) (λ image e. inr (partly t image e)))
 
     was_read : IsUnread g a → Leaves g a b CrashImage
     was_read none t = absurd (none ((was t).reading, (was t).was))
@@ -202,7 +202,7 @@ module _ {D : Type 0} (g : DiskGhosts D) (below : ℕ) (input : List ℕ) where
     }
 
     emptied_since : (t : g.tells) → HasGoneOn g a b below
-    emptied_since t = gone_on below t (weaker g.moment g.left_since g.held mid b (IsEmptying below left) (IsWithoutSome below left) (emptying t) (λ image e. record { from = e.from; few = e.few; is = e.is }))
+    emptied_since t = gone_on below t (emptying t)
 
     -- ---- the volumes were emptied
 
@@ -272,7 +272,7 @@ module _ {D : Type 0} (g : DiskGhosts D) (below : ℕ) (input : List ℕ) where
         gone_on 0 t
         (subst (λ (x : D). LeavesOnly g.moment g.left_since mid x (IsWithoutSome 0 left)) (sym same)
         (weaker g.moment g.left_since g.held mid mid (CrashImage (g.held mid)) (IsWithoutSome 0 left) ((looks_none g now mid).moments t)
-        (λ image crash. record { from = 0; few = omega arith; is = λ file. same_files (g.held mid) (sure t) image crash file ∙ sym (without_none left file) })))
+        (λ image crash. record { from = 0; few = omega arith; standing = inl refl; is = λ file. same_files (g.held mid) (sure t) image crash file ∙ sym (without_none left file) })))
 
     live_as : (volume : ℕ) → IsToldLive below archive volume → (r : ArchiveReading) → Recovers start r left → IsToldOf left (recovered_reading start r) archive → IsLiveAs below start r volume
     live_as volume (inl (none, zero)) ArchiveReading.nothing recovers told = zero

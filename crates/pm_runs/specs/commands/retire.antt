@@ -1,6 +1,6 @@
 -- `retire N` lets old volumes of an archive go: it recovers the archive and empties the volumes below a number, the lowest first. Metadata
 -- and the entries of the index stay. It writes the number. One above the current volume is refused, and so is an archive without a label.
-use Rattle.std.specs.Prelude.{◌≡◌, ◌≢◌, ◌⊎◌, ℕ, ◌<◌, ◌≤◌, true, false, List, [], length, codes, None, Result, Ok, Err}
+use Rattle.std.specs.Prelude.{◌≡◌, ◌≢◌, ◌⊎◌, ℕ, ◌<◌, ◌≤◌, true, false, List, [], length, codes, Some, None, Result, Ok, Err}
 use Rattle.text_lines.specs.Spelling.{one_number}
 use Rattle.pcp_base.specs.declared.file.FileId.{FileId}
 use Rattle.pcp_base.specs.declared.file.FileId.TheVariants.{Volume}
@@ -87,12 +87,17 @@ abbrev pub scan_from : ℕ → ArchiveReading → List Item
 scan_from from ArchiveReading.nothing = []
 scan_from from (ArchiveReading.archive c) = items_of (volumes_from from c.volumes)
 
+-- There is no volume below a number, or one that isn't below it has its label: the current volume isn't below it.
+abbrev pub Standing : Files → ℕ → Type 0
+Standing files from = (from ≡ 0) ⊎ ((n : ℕ) × (from ≤ n) × (132 ≤ length (files (Volume n))))
+
 -- Of files that are read so, and of which recovery leaves these, it leaves files on which recovery is on its way, with the volumes below a
--- number empty that is at most the one asked for. They are read with the items of the start but those of these volumes, and with all records
+-- number empty that is at most the one asked for, none of them the current one. They are read with the items of the start but those of these volumes, and with all records
 -- of Meta; and recovery leaves them sound where it leaves those of the start so.
 pub record IsPartlyRetired (below : ℕ) (files : Files) (r : ArchiveReading) (left image : Files) : Type 0 where
   pub from : ℕ
   pub most : from ≤ below
+  pub standing : Standing left from
   pub before : Files
   pub halfway : HalfwayFrom files r before
   pub is : (file : FileId) → image file ≡ without before from file
@@ -109,10 +114,11 @@ MayBeRetiring below held image =
 
 -- ---- over any disk
 
--- the lowest volumes are empty, no more than so many
+-- the lowest volumes are empty, no more than so many, and a volume behind them isn't
 pub record IsWithoutSome (most : ℕ) (files image : Files) : Type 0 where
   pub from : ℕ
   pub few : from ≤ most
+  pub standing : Standing files from
   pub is : (file : FileId) → image file ≡ without files from file
 
 module _ {D : Type 0} (d : DiskGhosts D) (old new : D) where
@@ -142,13 +148,6 @@ module _ {D : Type 0} (d : DiskGhosts D) (old new : D) where
   Went below (Err e) = HasNotGoneOn e
 
 -- ---- what is done to an archive that recovery left
-
--- Some of the lowest volumes are empty, and where there are any, a volume behind them has its label.
-pub record IsEmptying (below : ℕ) (files image : Files) : Type 0 where
-  pub from : ℕ
-  pub few : from ≤ below
-  pub standing : (from ≡ 0) ⊎ ((n : ℕ) × (from ≤ n) × (132 ≤ length (files (Volume n))))
-  pub is : (file : FileId) → image file ≡ without files from file
 
 -- it has no label, or its volume is below the number
 abbrev pub IsToldLive : ℕ → Archive → ℕ → Type 0

@@ -6,7 +6,7 @@ ghost use Rattle.pcp_outside.specs.Devices.{LeavesOnly};
 ghost use Rattle.logger_core.specs.Reopening.{IsLeft};
 ghost use Rattle.logger_core.specs.Retiring.{held_without};
 ghost use Rattle.pm_words.specs.Serving.{Meets};
-ghost use Rattle.pm_runs.specs.commands.retire.{retire as meaning_of_retire, EmptyingStops, IsEmptying, fault_refusal, retired_line};
+ghost use Rattle.pm_runs.specs.commands.retire.{retire as meaning_of_retire, EmptyingStops, IsWithoutSome, fault_refusal, retired_line};
 
 use archive_recovery::{Archive, recover};
 use logger_core::{LogFault, Logger};
@@ -40,7 +40,7 @@ fn refusal_of(fault: LogFault) -> Refusal
 fn empty_below<D: Disk>(disk: &mut D, archive: Archive, below: u32) -> Result<(), Refusal>
     ensures emptied { D.tells → OnOk result ((file : File) → D.held disk.new file ≡ held_without (D.held disk.old) below file) }
     ensures allowed { OnOk result ((archive.label ≢ None) × (below ≤ archive.volume)) }
-    ensures any_moment { D.tells → IsLeft archive (D.held disk.old) → LeavesOnly D.moment D.left_since disk.old disk.new (IsEmptying below (contents_of (D.held disk.old))) }
+    ensures any_moment { D.tells → IsLeft archive (D.held disk.old) → LeavesOnly D.moment D.left_since disk.old disk.new (IsWithoutSome below (contents_of (D.held disk.old))) }
     ensures stops { IfErr result (EmptyingStops below archive (D.faults disk.old) (D.faults disk.new) (disk.new ≡ disk.old)) }
     ensures quiet { OnOk result (D.faults disk.new ≡ D.faults disk.old) }
 {
