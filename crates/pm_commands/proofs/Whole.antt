@@ -3,9 +3,11 @@ use Rattle.std.proofs.Common.{◌≡◌, ◌⊎◌, inl, inr, ⊎_elim, ℕ, Boo
 use Rattle.pcp_model.specs.Disk.{CrashImage, contents_of}
 use Rattle.pcp_outside.proofs.Crash.{weaker}
 use Rattle.pcp_outside.specs.Sides.{SourceSide, sink_side}
+use Rattle.pcp_outside.specs.declared.disk.Disk.{Ghosts as DiskGhosts}
 use Rattle.run_passes.specs.declared.opening.Opened.{Opened}
 use Rattle.pm_words.specs.declared.words.Call.TheVariants as calls
 use Rattle.pm_words.specs.declared.words.Command.{Command}
+use Rattle.pm_words.specs.declared.words.Command.TheVariants.{Retire}
 use Rattle.pm_words.specs.declared.refusal.Refusal.{Refusal}
 use Rattle.pm_words.specs.declared.refusal.Refusal.TheVariants.{Usage, ReadFault, InputLimit, NoMemory}
 use Rattle.pm_words.specs.Asking.{Before, Got, IsInputless}
@@ -18,9 +20,10 @@ use Rattle.pm_words.proofs.Asked as asked
 use Rattle.pm_words.proofs.Asked.{IsOfBody}
 use Rattle.pm_words.proofs.Recovering.{by_status, never_nine, not_yet}
 use Rattle.pm_words.proofs.Telling.{tells_all, told_by}
+use Rattle.pm_runs.specs.commands.retire.{Went}
 use Rattle.pm_commands.specs.Causes.{Cause}
 use Rattle.pm_commands.specs.Ends.{Ends, EndsDone, MayBeLeft}
-use Rattle.pm_commands.specs.Facts.{Facts, IsAside, IsCommand, LeavesRegions, OpensRegions, Sides, StaysSound, WentOn, disk_of, sink_of, source_of}
+use Rattle.pm_commands.specs.Facts.{Facts, IsAside, IsCommand, LeavesRegions, LeavesRetired, OpensRegions, Sides, StaysSound, WentOn, disk_of, sink_of, source_of}
 use Rattle.pm_commands.specs.Meanings.{meaning}
 use Rattle.pm_commands.specs.Running.{Did, Runs, Stopped}
 use Rattle.pm_commands.proofs.Coherents.{coherent}
@@ -46,6 +49,14 @@ no_regions words s opened ReadFault b = tt
 no_regions words s opened InputLimit b = tt
 no_regions words s opened NoMemory b = tt
 no_regions words s opened _ b = absurd b
+
+-- one before the command leaves the disk alone
+not_gone : {D : Type 0} (g : DiskGhosts D) (a b : D) (below : ℕ) (words : List (List ℕ)) (s : SourceSide) (e : Refusal) → Before calls.Offline words s e → g.held b ≡ g.held a → Went g a b below (Err e)
+not_gone g a b below words s (Usage at) before same = same
+not_gone g a b below words s ReadFault before same = same
+not_gone g a b below words s InputLimit before same = same
+not_gone g a b below words s NoMemory before same = inl same
+not_gone g a b below words s _ before same = absurd before
 
 recovered_by : (result : Result (List ℕ) Refusal) (status : ℕ) → IsToldBy result status → HadRecovered status → HasRecovered result
 recovered_by (Ok text) status told had = tt
@@ -94,6 +105,20 @@ module _ {I O D : Type 0} (c : Sides I O D) (front : List ℕ) (result : Result 
   leaves_regions : DidIt ⊎ StoppedIt → LeavesRegions c status
   leaves_regions (inl did) = record { front = front; answer = result; told = told; ran = inr (did.asks, did.meets.ran) }
   leaves_regions (inr stopped) = record { front = front; answer = result; told = told; ran = inl stopped.none }
+
+  leaves_retired : DidIt ⊎ StoppedIt → c.disks.tells → (below : ℕ) → IsCommand c.words (Retire below) → LeavesRetired c below status
+  leaves_retired (inl did) tells below is = record {
+    front = front;
+    answer = result;
+    told = told;
+    went = (subst (λ (x : Command). (meaning x).ran c.disks did.asks.input c.disk_was c.disk_is c.opened front result) (same did (Retire below) is) did.meets.ran).1 tells;
+  }
+  leaves_retired (inr stopped) tells below is = record {
+    front = front;
+    answer = result;
+    told = told;
+    went = subst (Went c.disks c.disk_was c.disk_is below) (sym stopped.is) (not_gone c.disks c.disk_was c.disk_is below c.words (source_of c) stopped.refusal stopped.before (ap c.disks.held stopped.same));
+  }
 
   has_regions : DidIt ⊎ StoppedIt → facts_of.AsksRun c.words (source_of c) (sink_of c) (disk_of c) → HasRegions result c.opened
   has_regions (inl did) (command, is, runs) = did.meets.regions (ap (λ (x : Command). (meaning x).runs_script) (same did command is) ∙ runs)
@@ -164,6 +189,7 @@ module _ {I O D : Type 0} (c : Sides I O D) (front : List ℕ) (result : Result 
         kept = facts_of.keeps c.words (source_of c) (sink_of c) (disk_of c) status end;
         sound = λ zero. stays_sound (to zero);
         since = goes_on so;
+        retired = leaves_retired so;
         ran = leaves_regions so;
         regions = opens result refl is_told so;
         unrun = unruns so;

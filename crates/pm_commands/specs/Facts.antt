@@ -30,7 +30,7 @@ use Rattle.pm_words.specs.Sides.{DiskSide, Found, disk_side, files_found, IsUnre
 use Rattle.pm_words.specs.Sound.{LeavesSound}
 use Rattle.pm_words.specs.Telling.{TellsAll}
 use Rattle.pm_runs.specs.commands.recover.{IsMendedSide}
-use Rattle.pm_runs.specs.commands.retire.{IsLiveFound}
+use Rattle.pm_runs.specs.commands.retire.{IsLiveFound, Went}
 use Rattle.pm_commands.specs.Causes.{Asks, fault_of, Finds, IsReader}
 use Rattle.pm_commands.specs.Ends.{Ends, EndsDone, MayBeLeft}
 use Rattle.pm_commands.specs.Meanings.{meaning}
@@ -214,6 +214,14 @@ module _ {I O D : Type 0} (c : Sides I O D) where
     pub told : TellsAll sink_of front answer status
     pub ran : (c.opened ≡ None) ⊎ ((a : Asks c.words source_of) × (meaning a.command).ran c.disks a.input c.disk_was c.disk_is c.opened front answer)
 
+  -- How `retire` left the disk, by the answer that the status and the output tell: where it is done, or the disk failed once recovery had
+  -- answered, no volume but the lowest below its number is emptied; where it is live, or wants memory, none is.
+  pub record LeavesRetired (below status : ℕ) : Type 0 where
+    pub front : List ℕ
+    pub answer : Result (List ℕ) Refusal
+    pub told : TellsAll sink_of front answer status
+    pub went : Went c.disks c.disk_was c.disk_is below answer
+
   -- All that a call of `offline` says.
   pub record Facts (status : ℕ) : Type 0 where
     -- How it ends, whole: done, done but not told, or refused, with each refusal's cause, what was taken of the input, what the files hold
@@ -246,8 +254,8 @@ module _ {I O D : Type 0} (c : Sides I O D) where
     pub completes : IsGoodRun c.words source_of sink_of disk_of → (status ≡ 0) ⊎ ((status ≡ 9) ⊎ (status ≡ 11))
     -- A settled disk is settled after every status but 5.
     pub settled : (status ≡ 5 → ⊥) → c.disks.tells → IsSettled (c.disks.held c.disk_was) → IsSettled (c.disks.held c.disk_is)
-    -- Nothing that was there is lost: a crash at any moment leaves what one at the start might have left, or what the command allows over
-    -- what was there.
+    -- A crash at any moment leaves what one at the start might have left, or what the command allows over what was there: nothing that was
+    -- there is lost, but items of the lowest volumes where `retire` was asked to empty these.
     pub any_moment : Leaves c.disks c.disk_was c.disk_is (MayBeLeft c.words source_of)
     -- Files that are no archive stay as they were.
     pub unread : IsUnread c.disks c.disk_was → Leaves c.disks c.disk_was c.disk_is CrashImage
@@ -257,8 +265,11 @@ module _ {I O D : Type 0} (c : Sides I O D) where
     -- leaves of those before is so, or there was no archive: then `at` and `range` tell of them what the scan says.
     pub sound : status ≡ 0 → c.disks.tells → StaysSound c.words (c.disks.held c.disk_was) (c.disks.held c.disk_is)
     -- A run over any disk, settled or not: from the moment on at which recovery answered, the disk went by the run's events, and a crash
-    -- leaves all items of the start, and some first ones of the run, all that were acknowledged before among them.
+    -- leaves all items of the start, and some first ones of the run, all that were acknowledged before among them. Where `retire` was asked
+    -- for, a crash leaves from then on what recovery left, with some of the lowest volumes empty.
     pub since : c.disks.tells → HadRecovered status → WentOn
+    -- And so after each status, over any disk: how far `retire` has come.
+    pub retired : c.disks.tells → (below : ℕ) → IsCommand c.words (Retire below) → LeavesRetired below status
     -- The regions that are left are those on which the script's lines were run, and nothing else, as the seat has seen, which has gathered
     -- every pass: no entry can stand behind that. They are the lines of the run that the status tells of: after 0 it came to its end, and
     -- its lines and results are what is told; where it ended before, what is written is exactly its lines up to there and then why: where the
