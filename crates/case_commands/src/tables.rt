@@ -126,12 +126,7 @@ fn may_end(plain: &[u8], ended: &Ended) -> bool {
 
 // Recovers what a run left, and answers whether that ends as it may: with a number of items between two, and files that
 // are as they were before the run, or fronts of those where nothing failed.
-fn recovers(
-    alloc: Global,
-    plain: &Plain,
-    files: &[Held],
-    least: u64,
-) -> Result<bool, NoMemory> {
+fn recovers(alloc: Global, plain: &Plain, files: &[Held], least: u64) -> Result<bool, NoMemory> {
     let mut disk = planned_disk(alloc, files, &[])?;
     let words = words_of(alloc, "recover")?;
     let ended = run(alloc, &words, &[], &mut disk)?;

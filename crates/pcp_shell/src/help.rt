@@ -47,10 +47,7 @@ const COMMANDS: [(&str, &str); 16] = [
         "check",
         "Tell whether an archive is sound, or where it isn't",
     ),
-    (
-        "retire N",
-        "Empty the volumes of an archive below a number",
-    ),
+    ("retire N", "Empty the volumes of an archive below a number"),
     ("mmv-make", "Make the image of a layout text"),
     ("mmv-dump", "Print an image as a layout text"),
     ("mmv-lift", "Make the version 2 image of an image"),
