@@ -12,7 +12,7 @@ use Rattle.pm_words.proofs.Asked.{script_apart}
 use Rattle.pm_tasks.specs.commands.check as check
 use Rattle.pm_commands.specs.Causes.{Asks, Cause, CauseAt, IsReader}
 use Rattle.pm_commands.specs.Ends.{Ends, HasRun}
-use Rattle.pm_commands.specs.Facts.{IsCommand, IsGiven, IsUnsound, SoundnessIsExact, TurnsAway, refused_of}
+use Rattle.pm_commands.specs.Facts.{IsCommand, IsGiven, IsUnsound, SoundnessIsExact, TurnsAway}
 use Rattle.pm_commands.specs.Meanings.{meaning}
 use Rattle.pm_commands.proofs.Checked.{is_unsound, only_check, unsound_only}
 use Rattle.pm_commands.proofs.Facts.{by_end, one, turned_away, turned_found}
