@@ -11,7 +11,7 @@ use Rattle.run_script.specs.declared.script.Script.{Script}
 use Rattle.script_runs.specs.declared.ending.Ending.{Ending}
 use Rattle.script_runs.specs.declared.ending.Ending.TheVariants as ends
 use Rattle.pm_words.specs.declared.refusal.Refusal.{Refusal}
-use Rattle.pm_words.specs.declared.refusal.Refusal.TheVariants.{Condition, Limit, NotLater, Changed, Compressed, NotArchive, Nothing, UnsoundItems, UnsoundBoundary, UnsoundLate, DiskFault, NoMemory}
+use Rattle.pm_words.specs.declared.refusal.Refusal.TheVariants.{Condition, Limit, NotLater, Changed, Compressed, NotArchive, Nothing, UnsoundItems, UnsoundBoundary, UnsoundLate, Live, DiskFault, NoMemory}
 use Rattle.pm_words.specs.Refusals.{IsNumbered, IsOfRun, ending_refusal, status_of}
 use Rattle.pm_words.specs.Sides.{DiskSide, Found}
 use Rattle.pm_words.proofs.Coherent.{IsCoherent}
@@ -89,6 +89,7 @@ written_on c input d (Nothing stamp) front some (output, is, f) = inr (output, i
 written_on c input d (UnsoundItems first second) front some (output, is, f) = inr (output, is, λ t. let x = f t in inr (x.0, x.1, (x.2.0, x.2.2)))
 written_on c input d (UnsoundBoundary entry file below above) front some (output, is, f) = inr (output, is, λ t. let x = f t in inr (x.0, x.1, (x.2.0, x.2.2)))
 written_on c input d (UnsoundLate entry stamp) front some (output, is, f) = inr (output, is, λ t. let x = f t in inr (x.0, x.1, (x.2.0, x.2.2)))
+written_on c input d (Live volume) front some (output, is, f) = inr (output, is, λ t. let x = f t in inr (x.0, x.1, (x.2.0, x.2.2)))
 written_on c input d DiskFault front some b = absurd some
 written_on c input d NoMemory front some b = b
 written_on c input d _ front some b = inl b
