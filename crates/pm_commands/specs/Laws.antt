@@ -1,7 +1,7 @@
 -- Over which files commands are done: no readable archive is turned away by one that reads it whole, none that recovery would leave
 -- sound by one that asks by time or by `check`, nor files over which the run of a script comes to its end, unless a file stands wrapped; and that a
 -- script runs to one end.
-use Rattle.std.specs.Prelude.{◌≡◌, ℕ, List, None}
+use Rattle.std.specs.Prelude.{◌≡◌, ℕ, ◌≤◌, List, None}
 use Rattle.pcp_base.specs.Time.{Moment}
 use Rattle.pcp_model.specs.Archive.{ArchiveContents, IsArchive, Readable}
 use Rattle.pcp_model.specs.Disk.{Files}
