@@ -15,6 +15,16 @@ def big(*numbers):
     return b''.join(struct.pack('>I', n & 0xffffffff) for n in numbers)
 
 
+def ends(data):
+    """Where the label of a file ends, and each whole record behind it; a file that is less than its label has its start alone."""
+    if len(data) < 132:
+        return [0]
+    out = [132]
+    while out[-1] + 4 <= len(data) and out[-1] + int.from_bytes(data[out[-1]:out[-1] + 4], 'big') <= len(data):
+        out.append(out[-1] + int.from_bytes(data[out[-1]:out[-1] + 4], 'big'))
+    return out
+
+
 class Region:
     def __init__(self, file, image, capacity, passes):
         self.file, self.image, self.cluster = file, image, image.cluster
@@ -73,36 +83,59 @@ class Ended(Exception):
 
 
 class Archive:
-    """The files of an archive as whole bytes, and what they describe."""
+    """The files of an archive as whole bytes, what they describe, and the calls on the disk that made them so."""
 
     def __init__(self):
-        self.meta, self.index, self.volumes = b'', b'', []
-        self.descs, self.domains, self.items, self.greatest, self.last_entry = {}, {}, [], None, None
+        self.bytes, self.number, self.start, self.calls = {}, 0, None, []
+        # Meta's records and the index's entries in their order, the items by volume
+        self.records, self.entries, self.held = [], [], {}
+        self.descs, self.domains, self.greatest = {}, {}, None
+
+    @property
+    def items(self):
+        return [item for number in sorted(self.held) for item in self.held[number]]
 
     def files(self):
-        found = {'meta': self.meta, 'index': self.index}
-        found.update((str(n), volume) for n, volume in enumerate(self.volumes))
-        return {name: data for name, data in found.items() if data}
+        return {name: data for name, data in self.bytes.items() if data}
+
+    def size(self, name):
+        return len(self.bytes.get(name, b''))
+
+    def put(self, name, data):
+        self.bytes[name] = self.bytes.get(name, b'') + data
+        self.calls.append(('put', name, data))
+
+    def sync(self, name):
+        self.calls.append(('sync', name, b''))
 
     def framed(self, payload):
         return big(len(payload) + 8) + payload + big(len(payload) + 8)
 
-    def label(self, number):
-        return self.framed(big(0x50052602, 1, *self.start, number) + b'localhost'.ljust(64, b'\0') + b'UTC'.ljust(40, b'\0'))
+    def begin(self, name, number):
+        """A file gets its label, which is synced."""
+        self.put(name, self.framed(big(0x50052602, 1, *self.start, number) + b'localhost'.ljust(64, b'\0') + b'UTC'.ljust(40, b'\0')))
+        self.sync(name)
 
     def create(self, stamp):
         self.start = stamp
-        self.meta, self.index, self.volumes = self.label(-1), self.label(-2), [self.label(0)]
+        for name, number in (('meta', -1), ('index', -2), ('0', 0)):
+            self.begin(name, number)
 
     def enter(self, volume, meta, offset):
-        self.index += big(*self.greatest, volume, meta, offset)
-        self.last_entry = volume, meta, offset
+        self.put('index', big(*self.greatest, volume, meta, offset))
+        self.entries.append((self.greatest, volume, meta, offset))
 
-    def flush(self):
-        here = len(self.volumes) - 1, len(self.meta), len(self.volumes[-1])
-        last = self.last_entry
+    def enter_end(self):
+        """The volume is synced, and an entry leads to its end where the last one is behind."""
+        self.sync(str(self.number))
+        here = self.number, self.size('meta'), self.size(str(self.number))
+        last = self.entries[-1][1:] if self.entries else None
         if last is None or last[0] != here[0] or here[1] > last[1] or here[2] >= last[2] + 4096:
             self.enter(*here)
+
+    def flush(self):
+        self.calls.append(('flush', '', b''))
+        self.enter_end()
 
     def result(self, stamp, sets, codes):
         at = 12 + sum(12 + 8 * len(shown) if type(shown) is list else 8 for _, shown in sets)
@@ -124,7 +157,7 @@ class Archive:
 
     def log(self, limit, stamp, sets, descs, domains):
         """Logs sets; descs and domains describe those that show values, in the order of the sets."""
-        if not self.volumes:
+        if self.start is None:
             self.create(stamp)
         if self.greatest is not None and stamp <= self.greatest:
             raise Ended(12, 'not later %d %d' % self.greatest)
@@ -135,26 +168,54 @@ class Archive:
         for pmid, desc in descs:
             if pmid not in self.descs:
                 self.descs[pmid] = desc
+                self.records.append(('description', pmid, desc))
                 name = desc[4].encode()
                 meta += self.framed(big(1, pmid, *desc[:4], 1, len(name)) + name)
         for indom, pairs in domains:
             held = self.domains.setdefault(indom, [])
             if not held or held[-1][1] != pairs:
                 held.append((stamp, pairs))
+                self.records.append(('domain', indom, (stamp, pairs)))
                 table, offsets = b'', []
                 for _, name in pairs:
                     offsets.append(len(table))
                     table += name.encode('latin-1') + b'\0'
                 meta += self.framed(big(2, *stamp, indom, len(pairs), *[n for n, _ in pairs], *offsets) + table)
-        record = self.result(stamp, sets, {pmid: desc[0] for pmid, desc in descs})
-        if len(self.volumes[-1]) + len(record) > limit and len(self.volumes[-1]) > 132:
-            self.flush()
-            self.volumes.append(self.label(len(self.volumes)))
-            self.enter(len(self.volumes) - 1, len(self.meta), 132)
-        self.meta += meta
-        self.volumes[-1] += record
+        self.add(limit, meta, self.result(stamp, sets, {pmid: desc[0] for pmid, desc in descs}))
         self.greatest = stamp
-        self.items.append((stamp, sets))
+        self.held.setdefault(self.number, []).append((stamp, sets))
+
+    def add(self, limit, meta, record):
+        """Adds an item's record and the metadata that it needs, to the next volume where this one would pass its limit."""
+        if self.size(str(self.number)) + len(record) > limit and self.size(str(self.number)) > 132:
+            self.enter_end()
+            self.number += 1
+            self.begin(str(self.number), self.number)
+            self.enter(self.number, self.size('meta'), 132)
+        self.bytes['meta'] += meta
+        self.bytes[str(self.number)] += record
+        self.calls.append(('item', str(self.number), (meta, record)))
+
+    def found(self, files):
+        """This archive where of each file a front is left, or nothing: what its whole records say."""
+        left = Archive()
+        left.bytes, left.calls = dict(files), list(self.calls)
+        if left.size('meta') < 132:
+            return left
+        left.start = self.start
+        left.records = self.records[:len(ends(files['meta'])) - 1]
+        left.entries = self.entries[:max(0, (left.size('index') - 132) // 20)]
+        numbers = sorted(int(name) for name, data in files.items() if data and name.isdigit())
+        left.number = numbers[-1] if numbers else 0
+        left.held = {n: self.held.get(n, [])[:len(ends(files[str(n)])) - 1] for n in numbers}
+        for kind, key, what in left.records:
+            if kind == 'description':
+                left.descs[key] = what
+            else:
+                left.domains.setdefault(key, []).append(what)
+        stamps = [stamp for stamp, _ in left.items] + [entry[0] for entry in left.entries]
+        left.greatest = max(stamps + [held[-1][0] for held in left.domains.values()], default=None)
+        return left
 
     def instance_name(self, indom, instance, stamp):
         held = [pairs for since, pairs in self.domains.get(indom, []) if since <= stamp]
@@ -192,7 +253,7 @@ class Archive:
 
     def dump(self):
         """Status and output of `dump`, as of the others beside it."""
-        return 0, 'archive 1 localhost UTC\n' + self.told(self.items) if self.volumes else 'archive none\n'
+        return 0, 'archive 1 localhost UTC\n' + self.told(self.items) if self.start else 'archive none\n'
 
     def at(self, stamp):
         before = [item for item in self.items if item[0] <= stamp]

@@ -7,7 +7,7 @@ output and the bytes of all files are compared, and then what `dump` and two of 
 run a second time, with other steps, over the files that they left. The first run that differs is printed with its script; the last
 line is `N scripts, M differ`.
 """
-import copy, os, random, subprocess, sys, tempfile
+import os, random, subprocess, sys, tempfile
 from images import Image, RANGES, TOP, quoted
 from plain_fold import Archive, Fold
 
@@ -148,8 +148,7 @@ def closing(fold):
 def some_run(rng, head, archive, limit, micros):
     """A script over an archive, what the fold says of it, the archive then, and the last moment."""
     images, regions, groups, lines = head
-    kept, lines, fold = archive, list(lines), None
-    archive = copy.deepcopy(archive)
+    kept, lines, archive = archive, list(lines), archive.found(archive.files())
     fold = Fold(images, regions, groups, archive, limit)
 
     def add(text):
