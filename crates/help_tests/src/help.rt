@@ -4,12 +4,13 @@ use pcp_outside::MemSink;
 use pcp_shell::write_help;
 use std::test::Fail;
 
-const LINES: [&str; 16] = [
+const LINES: [&str; 17] = [
     "\n  once SEC USEC FILE ",
     "\n  replay VOLUME ",
     "\n  make NUMBER TICKS VOLUME ",
     "\n  record SAMPLES VOLUME ",
     "\n  serve PORT COUNT ",
+    "\n  pull PORT SAMPLES VOLUME NAME.. ",
     "\n  recover ",
     "\n  dump ",
     "\n  at SEC USEC ",

@@ -4,7 +4,8 @@
 
 use pcp_outside::{Sink, Source};
 use pcp_shell::{
-    asks_help, first_bad_of, first_bad_of_serve, record_samples, serve_clients, write_help,
+    asks_help, first_bad_behind_port, first_bad_of, pull_samples, record_samples, serve_clients,
+    write_help,
 };
 use pcp_system::{FileDisk, ReaderSource, Screen, WriterSink, open_standard};
 use pm_commands::{Call, Refusal, offline, read_words, writes_archive};
@@ -12,6 +13,7 @@ use std::alloc::{Alloc, AllocError, Global};
 use std::env::Env;
 use std::fs::{File, Files};
 use std::io::ErrorKind;
+use std::net::{Net, TcpListener, TcpStream};
 use std::process::ExitCode;
 use std::sync::Wait;
 use std::thread::Threads;
@@ -41,7 +43,8 @@ fn words_before_bad(rt: &(impl Env + Alloc<A = Global>)) -> Result<Vec<String>, 
 fn first_bad_word(rt: &(impl Env + Alloc<A = Global>)) -> Result<usize, AllocError> {
     let words = words_before_bad(rt)?;
     match Call::named(&words) {
-        Call::Serve => first_bad_of_serve(rt.alloc(), &words),
+        Call::Serve => first_bad_behind_port(rt.alloc(), Call::Serve, &words),
+        Call::Pull => first_bad_behind_port(rt.alloc(), Call::Pull, &words),
         call => first_bad_of(rt.alloc(), call, &words),
     }
 }
@@ -63,6 +66,49 @@ fn no_text(rt: &(impl Env + Alloc<A = Global>), out: &mut impl Sink) -> ExitCode
     }
 }
 
+// Whether a command writes the archive, whatever else its words are.
+fn writes(alloc: Global, call: Call, command: &[String]) -> Result<bool, AllocError> {
+    if let Call::Pull = call {
+        return Ok(true);
+    }
+    match read_words(alloc, call, command) {
+        Ok(asked) => Ok(writes_archive(&asked)),
+        Err(Refusal::NoMemory) => Err(AllocError),
+        Err(_) => Ok(false),
+    }
+}
+
+// Runs a command on the archive's files, and answers its status and the files.
+fn on_files<'a, R>(
+    rt: &R,
+    call: Call,
+    command: &[String],
+    input: &mut impl Source,
+    out: &mut impl Sink,
+    disk: FileDisk<'a, R>,
+    screen: &Screen,
+) -> (u8, FileDisk<'a, R>)
+where
+    R: Files<File = File>
+        + Net<Listener = TcpListener, Stream = TcpStream>
+        + Threads
+        + Wait
+        + Clock
+        + Alloc<A = Global>
+        + Sync,
+{
+    let mut disk = disk;
+    match call {
+        Call::Record => record_samples(rt, command, input, out, disk, screen),
+        Call::Pull => pull_samples(rt, command, out, disk, screen),
+        Call::Offline | Call::Serve => {
+            let mut opened = None;
+            let status = offline(rt.alloc(), command, input, out, &mut disk, &mut opened);
+            (status, disk)
+        }
+    }
+}
+
 // Runs a command on the archive, and answers its status. The files are closed before it is told why one of them failed.
 fn archive<R>(
     rt: &R,
@@ -73,27 +119,25 @@ fn archive<R>(
     screen: &Screen,
 ) -> u8
 where
-    R: Files<File = File> + Threads + Wait + Clock + Alloc<A = Global> + Sync,
+    R: Files<File = File>
+        + Net<Listener = TcpListener, Stream = TcpStream>
+        + Threads
+        + Wait
+        + Clock
+        + Alloc<A = Global>
+        + Sync,
 {
     let alloc = rt.alloc();
     let call = Call::named(command);
-    let writes = match read_words(alloc, call, command) {
-        Ok(asked) => writes_archive(&asked),
-        Err(Refusal::NoMemory) => return 9,
-        Err(_) => false,
+    let Ok(writes) = writes(alloc, call, command) else {
+        return 9;
     };
-    let mut disk = if writes {
+    let disk = if writes {
         FileDisk::new(alloc, rt, base)
     } else {
         FileDisk::for_reading(alloc, rt, base)
     };
-    if let Call::Record = call {
-        let (status, disk) = record_samples(rt, command, input, out, disk, screen);
-        tell_of(disk, screen);
-        return status;
-    }
-    let mut opened = None;
-    let status = offline(alloc, command, input, out, &mut disk, &mut opened);
+    let (status, disk) = on_files(rt, call, command, input, out, disk, screen);
     tell_of(disk, screen);
     status
 }
@@ -139,7 +183,7 @@ fn main(rt: HostRuntime) -> ExitCode {
     let screen = Screen::new(alloc, &rt, &rt.stderr());
     let status = match Call::named(command) {
         Call::Serve => serve_clients(&rt, command, &mut input, &mut out),
-        Call::Offline | Call::Record => {
+        Call::Offline | Call::Record | Call::Pull => {
             archive(&rt, base, command, &mut input, &mut out, &screen)
         }
     };

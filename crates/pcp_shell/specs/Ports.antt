@@ -1,4 +1,4 @@
--- The port that the words of `serve PORT COUNT` name.
+-- The port that the words of `serve PORT ..` and `pull PORT ..` name.
 use Rattle.std.specs.Prelude.{ℕ, List, [], ◌∷◌, Option, None}
 use Rattle.pm_words.specs.CommandLine.{number_in}
 

@@ -13,7 +13,7 @@ const ENDING: &str =
     "BASE begins the names of the archive's files: BASE.meta, BASE.index, BASE.0 and so on.";
 
 // Each command with its words, and what it does.
-const COMMANDS: [(&str, &str); 16] = [
+const COMMANDS: [(&str, &str); 17] = [
     (
         "once SEC USEC FILE",
         "Log the values of an image as one result",
@@ -31,6 +31,10 @@ const COMMANDS: [(&str, &str); 16] = [
         "Run a script's writers, and log a sample each second",
     ),
     ("serve PORT COUNT", "Serve a script's regions to clients"),
+    (
+        "pull PORT SAMPLES VOLUME NAME..",
+        "Ask a server for metrics, and log a sample each second",
+    ),
     ("recover", "Mend an archive that was stopped anywhere"),
     ("dump", "Print the label and all items of an archive"),
     ("at SEC USEC", "Print the last item not after a moment"),

@@ -1,14 +1,19 @@
-//! The program's own rooms: the help that it prints (`help`), which word of a command line is bad (`bad_words`), the listener of `serve` (`listening`), and the second and the terminal
-//! of `record` (`recording`). Only pcp and tests use them.
+//! The program's own rooms: the help that it prints (`help`), which word of a command line is bad (`bad_words`), PORT (`ports`), the listener of
+//! `serve` (`listening`), the second and the terminal of `record` (`recording`), and with these the connection of `pull` (`pulling`). Only pcp
+//! and tests use them.
 #![tactic(auto)]
 
 mod bad_words;
 mod help;
 mod listening;
+mod ports;
 mod progress;
+mod pulling;
 mod recording;
 
 pub use bad_words::first_bad_of;
 pub use help::{asks_help, write_help};
-pub use listening::{first_bad_of_serve, serve_clients};
+pub use listening::serve_clients;
+pub use ports::first_bad_behind_port;
+pub use pulling::pull_samples;
 pub use recording::record_samples;

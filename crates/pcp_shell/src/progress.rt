@@ -1,8 +1,8 @@
-//! What a recording has logged and made sure so far, counted at its disk and told before each of its samples.
+//! What a recording has logged and made sure so far, or what was pulled, counted at its disk and told before each sample.
 ghost use Rattle.std.specs.Prelude.{◌≡◌};
 
 use pcp_outside::{Disk, Failed, FileId, LOGGER, Turn};
-use std::io::Print;
+use std::io::{IsTerminal, Print};
 use std::mem;
 use std::sync::atomic::{AtomicU64, Ordering};
 
@@ -169,6 +169,14 @@ impl<'a, D: Disk + Drop> Disk for CountedDisk<'a, D> {
         }
         Ok(())
     }
+}
+
+/// How many samples are told on a screen: none where it is no terminal, or where there is only one.
+pub fn samples_told<P: IsTerminal>(samples: u32, screen: &P) -> Option<u32> {
+    if samples > 1 && screen.is_terminal() {
+        return Some(samples);
+    }
+    None
 }
 
 /// Turns of which some are told on a screen: before each of so many samples its number, and what was logged and made sure before it. Where

@@ -7,7 +7,7 @@ ghost use Rattle.pm_recording.specs.Facts.{ScriptFaultIsExact};
 ghost use Rattle.pm_words.specs.Asking.{UsageIsExact};
 ghost use Rattle.pm_words.specs.declared.words.Call.TheVariants as calls;
 
-use crate::progress::{CountedDisk, Progress, ToldTurn};
+use crate::progress::{CountedDisk, Progress, ToldTurn, samples_told};
 use pcp_outside::{Disk, Sink, Source};
 use pcp_system::{Pace, SystemClock};
 use pm_recording::run_record;
@@ -18,15 +18,12 @@ use std::sync::Wait;
 use std::thread::Threads;
 use std::time::Clock;
 
-// How many samples are told on a screen: none where it is no terminal, or where there is only one.
+// How many samples are told on a screen.
 fn samples_to_tell<P: IsTerminal>(alloc: Global, words: &[String], screen: &P) -> Option<u32> {
     let Ok(Command::Record(asked)) = read_words(alloc, Call::Record, words) else {
         return None;
     };
-    if asked.samples > 1 && screen.is_terminal() {
-        return Some(asked.samples);
-    }
-    None
+    samples_told(asked.samples, screen)
 }
 
 /// Records as the words ask, by the system's clock, with a second between the samples, and answers the exit status of `run_record` and the disk.

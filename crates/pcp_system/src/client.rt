@@ -1,4 +1,4 @@
-//! What a client sends, and how long it is waited for.
+//! What a client sends, or a server, and how long it is waited for.
 ghost use Rattle.std.specs.Prelude.{◌≡◌, ◌≤◌, [], length, IfOk, OnOk};
 ghost use Rattle.pcp_outside.specs.Causes.{HasCause};
 
@@ -7,10 +7,10 @@ use pcp_outside::{Failed, Source};
 use std::io::{self, ErrorKind, Read};
 use std::time::Duration;
 
-/// How long a client is waited for, before its connection is closed.
+/// How long a client is waited for, or a server, before its connection is closed.
 #[derive(Clone, Copy, Debug, PartialEq, Eq)]
 pub struct Patience {
-    /// The next byte of a PDU that it has begun, and that it takes some of a reply.
+    /// The next byte of a PDU that it has begun, and that it takes some of what is sent to it.
     pub begun: Duration,
     /// The first byte of a PDU.
     pub idle: Duration,
@@ -67,7 +67,7 @@ impl Framing {
     }
 }
 
-/// A source over a client's connection. It tells no content.
+/// A source over a connection to a client or a server. It tells no content.
 #[derive(Drop)]
 pub struct ClientSource {
     connection: Connection,
@@ -139,7 +139,7 @@ impl Source for ClientSource {
 
     ghost faults = { λ s. s.faults };
 
-    /// A read that a signal interrupts is tried again; a client that keeps silent too long is a fault.
+    /// A read that a signal interrupts is tried again; who keeps silent too long is a fault.
     fn take(&mut self, buffer: &mut [u8]) -> Result<usize, Failed> {
         for _ in 0..u64::MAX {
             match self.read(buffer) {

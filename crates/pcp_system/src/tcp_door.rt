@@ -82,7 +82,7 @@ fn accept<R: time::Clock>(listener: &TcpListener, system: &R) -> io::Result<TcpS
 }
 
 /// The two ends of a connection, whose small pieces are sent at once. A client that gives no sign of life is noticed by the system.
-fn ends_of(
+pub(crate) fn ends_of(
     alloc: Global,
     stream: TcpStream,
     patience: Patience,

@@ -1,7 +1,7 @@
 -- The laws of each command's meaning.
 use Rattle.std.proofs.Common.{None, []}
 use Rattle.pm_words.specs.declared.words.Command.{Command}
-use Rattle.pm_words.specs.declared.words.Command.TheVariants.{Once, Replay, Make, Retire, MmvMake, MmvDump, MmvLift, Dump, Info, Check, Recover, At, Range, Value, Record, Serve}
+use Rattle.pm_words.specs.declared.words.Command.TheVariants.{Once, Replay, Make, Retire, MmvMake, MmvDump, MmvLift, Dump, Info, Check, Recover, At, Range, Value, Record, Serve, Pull}
 use Rattle.pm_words.proofs.Coherent.{IsCoherent, converts_coherent}
 use Rattle.pm_tasks.proofs.Coherent.{at_coherent, check_coherent, dump_coherent, info_coherent, mmv_dump_coherent, mmv_lift_coherent, mmv_make_coherent, range_coherent, value_coherent}
 use Rattle.pm_runs.proofs.Coherent.{recover_coherent, runs_coherent}
@@ -28,3 +28,4 @@ coherent (Range from to) = range_coherent from to
 coherent (Value asked) = value_coherent asked
 coherent (Record asked) = converts_coherent (λ input. None) (λ input. [])
 coherent (Serve count) = converts_coherent (λ input. None) (λ input. [])
+coherent (Pull asked) = converts_coherent (λ input. None) (λ input. [])

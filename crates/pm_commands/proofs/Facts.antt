@@ -9,7 +9,7 @@ use Rattle.run_passes.specs.declared.opening.Opened.{Opened}
 use Rattle.pm_words.specs.declared.words.Call.TheVariants as calls
 use Rattle.pm_words.specs.declared.words.Command.{Command}
 use Rattle.pm_words.specs.declared.refusal.Refusal.{Refusal}
-use Rattle.pm_words.specs.declared.refusal.Refusal.TheVariants.{Usage, ReadFault, InputLimit, Image, Line, Script, Condition, Limit, NotLater, Changed, Compressed, NotArchive, Nothing, DiskFault, ClockEnd, ClockFault, Accept, NoMemory}
+use Rattle.pm_words.specs.declared.refusal.Refusal.TheVariants.{Usage, ReadFault, InputLimit, Image, Line, Script, Condition, Limit, NotLater, Changed, Compressed, NotArchive, Nothing, DiskFault, ClockEnd, ClockFault, Accept, Peer, NoMemory}
 use Rattle.pm_words.specs.Asking.{Got}
 use Rattle.pm_words.specs.CommandLine.{asked_by, takes_input}
 use Rattle.pm_words.specs.Inputs.{input_limit, refusal_of}
@@ -151,6 +151,7 @@ module _ (words : List (List ℕ)) (s : SourceSide) (k : SinkSide) (d : DiskSide
   input_found (ClockEnd left) c b f bad = absurd c.1
   input_found (ClockFault left) c b f bad = absurd c.1
   input_found Accept c b f bad = absurd c.1
+  input_found (Peer reply why) c b f bad = absurd c.1
   input_found NoMemory c b f bad = inr (inl refl)
   input_found _ c b f bad = absurd (found_good c.0 b f c.1.0.0 bad)
 
@@ -180,6 +181,7 @@ module _ (words : List (List ℕ)) (s : SourceSide) (k : SinkSide) (d : DiskSide
   turned_found status b good so (ClockEnd left) c = absurd c.1
   turned_found status b good so (ClockFault left) c = absurd c.1
   turned_found status b good so Accept c = absurd c.1
+  turned_found status b good so (Peer reply why) c = absurd c.1
   turned_found status b good so NoMemory c = inr (inl refl)
   turned_found status b good so e c = inl (so c.0 e c.1.2)
 
@@ -289,6 +291,7 @@ module _ (words : List (List ℕ)) (s : SourceSide) (k : SinkSide) (d : DiskSide
   completed (ClockEnd left) c good = absurd c.1
   completed (ClockFault left) c good = absurd c.1
   completed Accept c good = absurd c.1
+  completed (Peer reply why) c good = absurd c.1
   completed NoMemory c good = inr (inl refl)
   completed e c good = inr (inr (good_files good c.0 c.1.0.1 e c.1.2))
 
@@ -342,6 +345,7 @@ module _ (words : List (List ℕ)) (s : SourceSide) (k : SinkSide) (d : DiskSide
     good_regions (Line fault) c has b good runs = absurd (found_bad c.0 b (Line fault) c.1.0 good)
     good_regions (Script fault) c has b good runs = absurd (found_bad c.0 b (Script fault) c.1.0 good)
     good_regions Accept c has b good runs = absurd c.1
+    good_regions (Peer reply why) c has b good runs = absurd c.1
     good_regions NoMemory c has b good runs = inr (inl refl)
     good_regions _ c has b good runs = inl (has (b.command, b.words_are, runs))
 
@@ -353,6 +357,7 @@ module _ (words : List (List ℕ)) (s : SourceSide) (k : SinkSide) (d : DiskSide
     ran_regions (Line fault) has asks h = absurd (not_run 2 refl h)
     ran_regions (Script fault) has asks h = absurd (script_not_run fault.fault h)
     ran_regions Accept has asks h = absurd (not_run 21 refl h)
+    ran_regions (Peer reply why) has asks h = absurd (not_run 16 refl h)
     ran_regions NoMemory has asks h = absurd (not_run 9 refl h)
     ran_regions _ has asks h = has asks
 

@@ -13,7 +13,7 @@ use Rattle.script_runs.specs.declared.ending.Ending.TheVariants as ends
 use Rattle.pm_words.specs.declared.refusal.Refusal.{Refusal}
 use Rattle.pm_words.specs.declared.refusal.Refusal.TheVariants.{Compressed, NotArchive, Script, Live}
 use Rattle.pm_words.specs.declared.words.Command.{Command}
-use Rattle.pm_words.specs.declared.words.Command.TheVariants.{Once, Replay, Make, Retire, MmvMake, MmvDump, MmvLift, Dump, Info, Check, Recover, At, Range, Value, Record, Serve}
+use Rattle.pm_words.specs.declared.words.Command.TheVariants.{Once, Replay, Make, Retire, MmvMake, MmvDump, MmvLift, Dump, Info, Check, Recover, At, Range, Value, Record, Serve, Pull}
 use Rattle.pm_words.specs.Refusals.{AtFiles, ending_refusal, status_of}
 use Rattle.pm_words.specs.Sides.{DiskSide, Found, files_found}
 use Rattle.pm_words.proofs.Asked.{script_apart}
@@ -66,6 +66,7 @@ only_retire (Range from to) input f volume t = absurd ((range_fits from to).only
 only_retire (Value asked) input f volume t = absurd ((value_fits asked).only f (Live volume) t)
 only_retire (Record asked) input f volume t = absurd t
 only_retire (Serve count) input f volume t = absurd t
+only_retire (Pull asked) input f volume t = absurd t
 
 -- ---- which archives are live
 

@@ -1,7 +1,7 @@
 -- The meaning of each command. Where a new one goes: its variant and its words in pm_words, its meaning here, its body in `serve`.
 use Rattle.std.specs.Prelude.{Bool, true, [], None}
 use Rattle.pm_words.specs.declared.words.Command.{Command}
-use Rattle.pm_words.specs.declared.words.Command.TheVariants.{Once, Replay, Make, Retire, MmvMake, MmvDump, MmvLift, Dump, Info, Check, Recover, At, Range, Value, Record, Serve}
+use Rattle.pm_words.specs.declared.words.Command.TheVariants.{Once, Replay, Make, Retire, MmvMake, MmvDump, MmvLift, Dump, Info, Check, Recover, At, Range, Value, Record, Serve, Pull}
 use Rattle.pm_words.specs.Meaning.{Meaning, converts}
 use Rattle.pm_tasks.specs.commands.at.{at}
 use Rattle.pm_tasks.specs.commands.check.{check}
@@ -39,8 +39,10 @@ meaning (Range from to) = range from to
 meaning (Value asked) = value asked
 meaning (Record asked) = other
 meaning (Serve count) = other
+meaning (Pull asked) = other
 
--- whether a command writes an archive; `record` does, whose meaning is its call's
+-- whether a command writes an archive; `record` and `pull` do, whose meanings are their calls'
 abbrev pub writes_archive : Command → Bool
 writes_archive (Record asked) = true
+writes_archive (Pull asked) = true
 writes_archive command = (meaning command).writes_archive

@@ -1,4 +1,4 @@
-//! `offline`, the call that main makes for each command but `serve` and `record`.
+//! `offline`, the call that main makes for each command that has no call of its own.
 ghost use Rattle.std.specs.Prelude.{◌≡◌, ◌≤◌, length, map, string_bytes, false, None};
 ghost use Rattle.pcp_outside.specs.Sides.{source_side, sink_side};
 ghost use Rattle.pm_words.specs.declared.words.Call.TheVariants as calls;
@@ -30,6 +30,7 @@ pub fn writes_archive(command: &Command) -> bool
             | Command::Retire(_)
             | Command::Recover
             | Command::Record(_)
+            | Command::Pull(_)
     )
 }
 
@@ -66,7 +67,7 @@ fn serve<O: Sink, D: Disk>(
         Command::Range(from, to) => range(alloc, *from, *to, disk),
         Command::Value(asked) => value(alloc, asked, disk),
         // They are other calls'.
-        Command::Record(_) | Command::Serve(_) => unreachable!(),
+        Command::Record(_) | Command::Serve(_) | Command::Pull(_) => { unreachable!() }
     }
 }
 

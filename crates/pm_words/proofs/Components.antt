@@ -5,18 +5,18 @@ use Rattle.std.proofs.lemmas.List.Elements.{All-from_recursion}
 use Rattle.pcp_base.specs.Names.{is_letter, is_name_byte, IsComponent}
 use Rattle.pcp_base.specs.Texts.{IsText}
 
-left : (a b : Bool) → (a && b) ≡ true → a ≡ true
+pub left : (a b : Bool) → (a && b) ≡ true → a ≡ true
 left true b h = refl
 left false b h = cc
 
-right : (a b : Bool) → (a && b) ≡ true → b ≡ true
+pub right : (a b : Bool) → (a && b) ≡ true → b ≡ true
 right true b h = h
 right false b h = cc
 
-letter_clean : (b : ℕ) → is_letter b ≡ true → b ≢ 0
+pub letter_clean : (b : ℕ) → is_letter b ≡ true → b ≢ 0
 letter_clean b h = λ e. let z : is_letter b ≡ false = ap is_letter e in cc
 
-byte_clean : (b : ℕ) → is_name_byte b ≡ true → b ≢ 0
+pub byte_clean : (b : ℕ) → is_name_byte b ≡ true → b ≢ 0
 byte_clean b h = λ e. let z : is_name_byte b ≡ false = ap is_name_byte e in cc
 
 bytes_clean : (bs : List ℕ) → list_all is_name_byte bs ≡ true → AllByRecursion (λ b. b ≢ 0) bs

@@ -1,4 +1,5 @@
 pub mod Asked
+mod AskedNames
 pub mod Coherent
 mod Components
 pub mod Recovering

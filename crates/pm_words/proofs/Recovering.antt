@@ -3,7 +3,7 @@ use Rattle.std.proofs.Common.{◌≡◌, inl, inr, ℕ, Bool, true, false, ◌==
 use Rattle.pcp_outside.specs.Sides.{SourceSide}
 use Rattle.pm_words.specs.declared.words.Call.{Call}
 use Rattle.pm_words.specs.declared.refusal.Refusal.{Refusal}
-use Rattle.pm_words.specs.declared.refusal.Refusal.TheVariants.{Usage, ReadFault, InputLimit, Image, Line, Script, Condition, Limit, NotLater, Changed, Compressed, NotArchive, Nothing, UnsoundItems, UnsoundBoundary, UnsoundLate, Live, DiskFault, ClockEnd, ClockFault, Accept, NoMemory}
+use Rattle.pm_words.specs.declared.refusal.Refusal.TheVariants.{Usage, ReadFault, InputLimit, Image, Line, Script, Condition, Limit, NotLater, Changed, Compressed, NotArchive, Nothing, UnsoundItems, UnsoundBoundary, UnsoundLate, Live, DiskFault, ClockEnd, ClockFault, Accept, Peer, NoMemory}
 use Rattle.run_script.specs.declared.fault.ScriptLineFault.{ScriptLineFault}
 use Rattle.run_script.specs.declared.fault.ScriptLineFault.TheVariants as script
 use Rattle.pm_words.specs.Asking.{Before}
@@ -61,6 +61,7 @@ by_status (UnsoundLate entry stamp) h = absurd (early 10 refl h)
 by_status (Live volume) h = absurd (early 14 refl h)
 by_status DiskFault h = absurd (early 5 refl h)
 by_status Accept h = absurd (early 21 refl h)
+by_status (Peer reply why) h = absurd (early 16 refl h)
 by_status NoMemory h = absurd (early 9 refl h)
 by_status _ h = tt
 

@@ -1,13 +1,13 @@
 -- What the words of a command line ask for.
-use Rattle.std.specs.Prelude.{◌≡◌, ℕ, ◌+◌, ◌≤◌, Bool, false, true, ◌==◌, ◌&&◌, nat_le, nat_lt, if◌then◌else◌, List, [], ◌∷◌, length, Option, Some, None, Result, Ok, Err, codes, bytes_eq}
-use Rattle.std.specs.List.{list_all}
-use Rattle.pcp_base.specs.Names.{IsComponent, is_letter, is_name_byte}
+use Rattle.std.specs.Prelude.{◌≡◌, ℕ, ◌+◌, ◌≤◌, All, Bool, false, true, ◌==◌, ◌&&◌, min, nat_le, nat_lt, if◌then◌else◌, List, [], ◌∷◌, length, Option, Some, None, Result, Ok, Err, codes, bytes_eq}
+use Rattle.std.specs.List.{list_all, prefix_len}
+use Rattle.pcp_base.specs.Names.{IsComponent, is_letter, is_name_byte, spells}
 use Rattle.pcp_base.specs.Time.{Moment}
 use Rattle.text_lines.specs.Numbers.{number_of}
 use Rattle.pm_words.specs.declared.words.Command.{Command}
 use Rattle.pm_words.specs.declared.words.Call.{Call}
 use Rattle.pm_words.specs.declared.words.Call.TheVariants as calls
-use Rattle.pm_words.specs.declared.words.Command.TheVariants.{Once, Replay, Make, Retire, MmvMake, MmvDump, MmvLift, Dump, Info, Check, Recover, At, Range, Value, Record, Serve}
+use Rattle.pm_words.specs.declared.words.Command.TheVariants.{Once, Replay, Make, Retire, MmvMake, MmvDump, MmvLift, Dump, Info, Check, Recover, At, Range, Value, Record, Serve, Pull}
 use Rattle.pm_words.specs.declared.refusal.Refusal.{Refusal}
 use Rattle.pm_words.specs.declared.refusal.Refusal.TheVariants.{Usage, NoMemory}
 use Rattle.pm_words.specs.declared.words.BadWord.{BadWord}
@@ -170,10 +170,33 @@ serve_of words = do
   count ← word_then (number_in 1 100000) 1 words
   end_then (Serve count.0) 2 count.1
 
--- the call that the first word names: `record` and `serve` have calls of their own
+-- a name that a peer is asked for: a name of at most 400 bytes
+abbrev pub is_asked_name : List ℕ → Bool
+is_asked_name word = nat_le (length word) 400 && spells true word
+
+-- Names from the word at an index on, where so many words in front are names: from one to 64 of them, and no further word; or the index of
+-- the first word that is missing, that is no name, or that is one too many.
+abbrev pub names_of_front : ℕ → ℕ → List (List ℕ) → Result (List (List ℕ)) ℕ
+names_of_front front at words = if nat_le 1 front && nat_le front 64 && (front == length words) then Ok words else Err (at + min front 64)
+
+abbrev pub names_then : ℕ → List (List ℕ) → Result (List (List ℕ)) ℕ
+names_then at words = names_of_front (prefix_len is_asked_name words) at words
+
+-- SAMPLES VOLUME NAME..
+unfoldable pub pull_of : List (List ℕ) → Result Command ℕ
+pull_of words = do
+  samples ← word_then ticks_of 1 words
+  volume ← word_then volume_of 2 samples.1
+  names ← names_then 3 volume.1
+  Ok (Pull record { samples = samples.0; volume = volume.0; names = names })
+
+-- the call that the first word names; these three have calls of their own
 abbrev pub call_named : List (List ℕ) → Call
 call_named [] = calls.Offline
-call_named (word ∷ words) = if bytes_eq word (codes "record") then calls.Record else if bytes_eq word (codes "serve") then calls.Serve else calls.Offline
+call_named (word ∷ words) =
+    if bytes_eq word (codes "record") then calls.Record else
+    if bytes_eq word (codes "serve") then calls.Serve else
+    if bytes_eq word (codes "pull") then calls.Pull else calls.Offline
 
 -- The command that the words ask a call for, or the index of the first word that is bad or missing. A command that isn't known, or is
 -- another call's, is bad at 0.
@@ -182,11 +205,13 @@ asked_by call [] = Err 0
 asked_by calls.Offline (word ∷ words) = run_command_of word words
 asked_by calls.Record (word ∷ words) = if bytes_eq word (codes "record") then record_of words else Err 0
 asked_by calls.Serve (word ∷ words) = if bytes_eq word (codes "serve") then serve_of words else Err 0
+asked_by calls.Pull (word ∷ words) = if bytes_eq word (codes "pull") then pull_of words else Err 0
 
 -- the call that does a command
 abbrev pub call_of : Command → Call
 call_of (Record asked) = calls.Record
 call_of (Serve count) = calls.Serve
+call_of (Pull asked) = calls.Pull
 call_of _ = calls.Offline
 
 -- whether a command takes an input
@@ -212,6 +237,10 @@ Reads (Err (Usage at)) read = read ≡ Err at
 Reads (Err NoMemory) read = Unit {0}
 Reads (Err _) read = ⊥
 
+-- names that a peer is asked for: from one to 64
+abbrev pub AreAskedNames : List (List ℕ) → Type 0
+AreAskedNames names = (1 ≤ length names) × (length names ≤ 64) × All (λ name. is_asked_name name ≡ true) names
+
 -- what the words of a command promise of it
 abbrev pub FitsCommand : Command → Type 0
 FitsCommand (Once asked) = (length asked.file ≤ 63) × IsComponent asked.file
@@ -220,4 +249,5 @@ FitsCommand (Make asked) = (1 ≤ asked.ticks) × (asked.ticks ≤ 100000) × (1
 FitsCommand (Retire below) = below ≤ 10000
 FitsCommand (Record asked) = (1 ≤ asked.samples) × (asked.samples ≤ 100000) × (1024 ≤ asked.volume) × (asked.volume ≤ 1073741824)
 FitsCommand (Serve count) = (1 ≤ count) × (count ≤ 100000)
+FitsCommand (Pull asked) = (1 ≤ asked.samples) × (asked.samples ≤ 100000) × (1024 ≤ asked.volume) × (asked.volume ≤ 1073741824) × AreAskedNames asked.names
 FitsCommand _ = Unit {0}

@@ -1,6 +1,6 @@
 -- How a command that is refused ends: its status and its last line.
 use Rattle.std.specs.Prelude.{◌≡◌, ◌⊎◌, ℕ, List, [], ◌∷◌, ◌++◌, take, Option, Some, None, codes}
-use Rattle.std.specs.Fmt.{decimal}
+use Rattle.std.specs.Fmt.{decimal, signed_decimal}
 use Rattle.pcp_base.specs.declared.file.FileId.{FileId}
 use Rattle.pcp_base.specs.declared.file.FileId.TheVariants.{Meta, Index, Volume}
 use Rattle.pcp_outside.specs.Causes.{Rose}
@@ -19,8 +19,10 @@ use Rattle.script_runs.specs.declared.ending.Ending.{Ending}
 use Rattle.script_runs.specs.declared.ending.Ending.TheVariants as ends
 use Rattle.script_runs.specs.declared.ending.LimitKind.{LimitKind}
 use Rattle.script_runs.specs.declared.ending.LimitKind.TheVariants as kinds
+use Rattle.pm_words.specs.declared.refusal.PeerFault.{PeerFault}
+use Rattle.pm_words.specs.declared.refusal.PeerFault.TheVariants as peers
 use Rattle.pm_words.specs.declared.refusal.Refusal.{Refusal}
-use Rattle.pm_words.specs.declared.refusal.Refusal.TheVariants.{Usage, ReadFault, InputLimit, Image, Line, Script, Condition, Limit, NotLater, Changed, Compressed, NotArchive, Nothing, UnsoundItems, UnsoundBoundary, UnsoundLate, Live, DiskFault, ClockEnd, ClockFault, Accept, NoMemory}
+use Rattle.pm_words.specs.declared.refusal.Refusal.TheVariants.{Usage, ReadFault, InputLimit, Image, Line, Script, Condition, Limit, NotLater, Changed, Compressed, NotArchive, Nothing, UnsoundItems, UnsoundBoundary, UnsoundLate, Live, DiskFault, ClockEnd, ClockFault, Accept, Peer, NoMemory}
 
 -- of a script that has too many regions the limit is told
 abbrev pub script_status : ScriptLineFault → ℕ
@@ -49,6 +51,7 @@ status_of DiskFault = 5
 status_of (ClockEnd left) = 8
 status_of (ClockFault left) = 20
 status_of Accept = 21
+status_of (Peer reply why) = 16
 status_of NoMemory = 9
 
 abbrev pub script_line : ℕ → ScriptLineFault → List ℕ
@@ -68,6 +71,15 @@ abbrev pub file_name : FileId → List ℕ
 file_name Meta = codes "meta"
 file_name Index = codes "index"
 file_name (Volume k) = decimal k
+
+-- why a reply of a peer isn't taken
+abbrev pub peer_fault : PeerFault → List ℕ
+peer_fault (peers.Ended bytes) = codes "ended " ++ decimal bytes
+peer_fault (peers.Length length) = codes "length " ++ decimal length
+peer_fault peers.Decode = codes "decode"
+peer_fault (peers.Code code) = codes "code " ++ signed_decimal code
+peer_fault peers.OtherType = codes "type"
+peer_fault peers.Shape = codes "shape"
 
 -- The last line of a refusal. Want of memory has none.
 abbrev pub line_of : Refusal → List ℕ
@@ -94,6 +106,7 @@ line_of DiskFault = codes "disk fault\n"
 line_of (ClockEnd left) = codes "clock end " ++ (decimal left ++ 10 ∷ [])
 line_of (ClockFault left) = codes "clock fault " ++ (decimal left ++ 10 ∷ [])
 line_of Accept = codes "accept fault\n"
+line_of (Peer reply why) = codes "peer " ++ (decimal reply ++ (32 ∷ (peer_fault why ++ 10 ∷ [])))
 line_of NoMemory = []
 
 -- its line has a number or a name, so that making it takes memory
@@ -106,7 +119,7 @@ IsNumbered NoMemory = ⊥
 IsNumbered _ = Unit {0}
 
 -- What a call looks at when it is refused: its words, the reading of an input, the input, the files (recovered, read, or run over), the disk
--- as a device, the clock, the doors; or memory, at any place.
+-- as a device, the clock, the doors, the replies of a peer; or memory, at any place.
 pub data Stage : Type 0 where
   AtWords : Stage
   AtReading : Stage
@@ -115,6 +128,7 @@ pub data Stage : Type 0 where
   AtDisk : Stage
   AtClock : Stage
   AtDoors : Stage
+  AtReplies : Stage
   AtMemory : Stage
 
 abbrev pub stage_of : Refusal → Stage
@@ -128,6 +142,7 @@ stage_of DiskFault = AtDisk
 stage_of (ClockEnd left) = AtClock
 stage_of (ClockFault left) = AtClock
 stage_of Accept = AtDoors
+stage_of (Peer reply why) = AtReplies
 stage_of NoMemory = AtMemory
 stage_of _ = AtFiles
 

@@ -5,6 +5,7 @@
 mod asking;
 mod inputs;
 mod lines;
+mod names;
 mod output;
 mod refusal;
 mod words;
@@ -12,5 +13,7 @@ mod words;
 pub use asking::ask;
 pub use inputs::read_input;
 pub use output::{send, tell_end};
-pub use refusal::{Refusal, of_ending};
-pub use words::{Call, Command, MakeWords, OnceWords, RecordWords, ValueWords, read_words};
+pub use refusal::{PeerFault, Refusal, of_ending};
+pub use words::{
+    Call, Command, MakeWords, OnceWords, PullWords, RecordWords, ValueWords, read_words,
+};

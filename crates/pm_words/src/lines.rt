@@ -1,8 +1,9 @@
 //! The last lines of refusals that have a number or a name.
 ghost use Rattle.std.specs.Prelude.{◌≡◌, IfOk, string_bytes};
-ghost use Rattle.pm_words.specs.Refusals.{file_name, limit_name, line_of, script_line, script_status};
-ghost use Rattle.pm_words.specs.declared.refusal.Refusal.TheVariants.{Changed, ClockEnd, ClockFault, Compressed, Limit, Live, NotArchive, NotLater, Nothing, UnsoundBoundary, UnsoundItems, UnsoundLate, Usage};
+ghost use Rattle.pm_words.specs.Refusals.{file_name, limit_name, line_of, peer_fault, script_line, script_status};
+ghost use Rattle.pm_words.specs.declared.refusal.Refusal.TheVariants.{Changed, ClockEnd, ClockFault, Compressed, Limit, Live, NotArchive, NotLater, Nothing, Peer, UnsoundBoundary, UnsoundItems, UnsoundLate, Usage};
 
+use crate::refusal::PeerFault;
 use pcp_base::{Bytes, FileId, List, NoMemory, Pmid, Stamp};
 use pm_print::line_fault_text;
 use run_script::{ScriptFault, ScriptLineFault};
@@ -173,5 +174,28 @@ pub(crate) fn clock_fault_line(alloc: Global, left: u32) -> Result<Bytes, NoMemo
     ensures { IfOk result (λ line. line ≡ line_of (ClockFault left)) }
 {
     let line = format!(in alloc; "clock fault {left}\n")?;
+    Ok(List::from_vec(line.into_bytes()))
+}
+
+// Why a reply of a peer isn't taken.
+fn peer_fault(alloc: Global, why: PeerFault) -> Result<String, AllocError>
+    ensures { IfOk result (λ text. string_bytes text ≡ peer_fault why) }
+{
+    match why {
+        PeerFault::Ended { bytes } => format!(in alloc; "ended {bytes}"),
+        PeerFault::Length { length } => format!(in alloc; "length {length}"),
+        PeerFault::Decode => format!(in alloc; "decode"),
+        PeerFault::Code { code } => format!(in alloc; "code {code}"),
+        PeerFault::OtherType => format!(in alloc; "type"),
+        PeerFault::Shape => format!(in alloc; "shape"),
+    }
+}
+
+pub(crate) fn peer_line(alloc: Global, reply: u64, why: PeerFault) -> Result<Bytes, NoMemory>
+    ensures { IfOk result (λ line. line ≡ line_of (Peer reply why)) }
+{
+    let fault = peer_fault(alloc, why)?;
+    let fault = fault.as_str();
+    let line = format!(in alloc; "peer {reply} {fault}\n")?;
     Ok(List::from_vec(line.into_bytes()))
 }

@@ -4,8 +4,8 @@ ghost use Rattle.pm_words.specs.Refusals.{IsNumbered, Wrote, ending_refusal, lin
 
 use crate::lines::{
     changed_line, clock_end_line, clock_fault_line, compressed_line, limit_line, live_line,
-    misfit_line, not_later_line, nothing_line, script_line, script_status, unsound_boundary_line,
-    unsound_items_line, unsound_late_line, usage_line,
+    misfit_line, not_later_line, nothing_line, peer_line, script_line, script_status,
+    unsound_boundary_line, unsound_items_line, unsound_late_line, usage_line,
 };
 use archive_check::CheckFault;
 use archive_reader::ReaderFault;
@@ -100,7 +100,29 @@ pub enum Refusal {
     },
     /// A door failed.
     Accept,
+    /// A reply of the peer, counted from 0, isn't one that may come there.
+    Peer {
+        reply: u64,
+        why: PeerFault,
+    },
     NoMemory,
+}
+
+/// Why a reply of a peer isn't taken.
+#[derive(Clone, Copy, Debug, PartialEq, Eq)]
+pub enum PeerFault {
+    /// The replies end so many bytes into it.
+    Ended { bytes: u64 },
+    /// Its length is that of no PDU.
+    Length { length: u64 },
+    /// Its bytes are no PDU.
+    Decode,
+    /// It is an error with this code.
+    Code { code: i32 },
+    /// It is a PDU of another type than the one that is due.
+    OtherType,
+    /// It has the type that is due, and doesn't answer what was asked.
+    Shape,
 }
 
 impl From<NoMemory> for Refusal {
@@ -188,7 +210,7 @@ pub fn of_ending(ending: Ending) -> Option<Refusal>
 }
 
 impl Refusal {
-    /// The exit status: 1 to 3, 5 to 14, 20 or 21. Of a sink that fails (4) nothing can be told.
+    /// The exit status: 1 to 3, 5 to 14, 16, 20 or 21. Of a sink that fails (4) nothing can be told.
     pub fn status(&self) -> u8
         ensures { result ≡ status_of self.now }
     {
@@ -209,6 +231,7 @@ impl Refusal {
             Refusal::NotLater { .. } => 12,
             Refusal::Changed { .. } => 13,
             Refusal::Live { .. } => 14,
+            Refusal::Peer { .. } => 16,
             Refusal::ClockFault { .. } => 20,
             Refusal::Accept => 21,
         }
@@ -259,6 +282,7 @@ impl Refusal {
             Refusal::Live { volume } => live_line(alloc, *volume),
             Refusal::ClockEnd { left } => clock_end_line(alloc, *left),
             Refusal::ClockFault { left } => clock_fault_line(alloc, *left),
+            Refusal::Peer { reply, why } => peer_line(alloc, *reply, *why),
             // Their lines have no number.
             Refusal::ReadFault
             | Refusal::InputLimit

@@ -3,9 +3,10 @@ ghost use Rattle.std.specs.Prelude.{◌≡◌, ◌<◌, ◌≤◌, if◌then◌e
 ghost use Rattle.pcp_base.specs.Names.{IsComponent};
 ghost use Rattle.pcp_base.specs.Texts.{IsText};
 ghost use Rattle.pcp_base.specs.Time.{IsMoment};
-ghost use Rattle.pm_words.specs.CommandLine.{Reads, Gives, FitsCommand, asked_by, call_named, call_of, run_command_of, end_then, number_in, volume_of, once_of, replay_of, make_of, retire_of, image_command_of, archive_command_of, timed_command_of, stamp_then, at_of, range_of, value_of, second_of, microsecond_of, file_of, begins_with_dash, name_of, record_of, serve_of, takes_input, word_then};
+ghost use Rattle.pm_words.specs.CommandLine.{Reads, Gives, FitsCommand, asked_by, call_named, call_of, run_command_of, end_then, number_in, volume_of, once_of, replay_of, make_of, retire_of, image_command_of, archive_command_of, timed_command_of, stamp_then, at_of, range_of, value_of, second_of, microsecond_of, file_of, begins_with_dash, name_of, names_then, pull_of, record_of, serve_of, takes_input, word_then};
 ghost use Rattle.pm_words.specs.declared.words.Call.TheVariants as calls;
 
+use crate::names::{names_at, texts_of};
 use crate::refusal::Refusal;
 use pcp_base::{Bytes, List, NoMemory, Stamp, Text, TextError, is_component};
 use std::alloc::Global;
@@ -46,17 +47,21 @@ pub enum Command {
     Record(RecordWords),
     /// `serve COUNT`: serve a script's regions to so many clients.
     Serve(u32),
+    /// `pull SAMPLES VOLUME NAME..`: log samples of metrics that a peer is asked for.
+    Pull(PullWords),
 }
 
 /// The call of the library that does a command.
 #[derive(Clone, Copy, Debug, PartialEq, Eq)]
 pub enum Call {
-    /// `offline`: each command but `record` and `serve`.
+    /// `offline`: each command that no other call does.
     Offline,
     /// `run_record`.
     Record,
     /// `run_serve`.
     Serve,
+    /// `pull`.
+    Pull,
 }
 
 /// When the result is logged, and the region's name: one component of a name, of at most 63 bytes.
@@ -88,6 +93,15 @@ pub struct RecordWords {
     pub volume: u64,
 }
 
+/// How many samples are to be taken, the volume limit in bytes, and the names of the metrics that are asked for: from one to 64, each of at
+/// most 400 bytes.
+#[derive(Drop)]
+pub struct PullWords {
+    pub samples: u32,
+    pub volume: u64,
+    pub names: List<Text>,
+}
+
 impl Call {
     /// The call that the first word names.
     pub fn named(words: &[String]) -> Call
@@ -102,6 +116,9 @@ impl Call {
         }
         if name == b"serve".as_slice() {
             return Call::Serve;
+        }
+        if name == b"pull".as_slice() {
+            return Call::Pull;
         }
         Call::Offline
     }
@@ -128,7 +145,7 @@ impl Command {
 /// The word at this index is bad, or is missing.
 #[derive(Clone, Copy)]
 pub(crate) struct BadWord {
-    at: usize,
+    pub(crate) at: usize,
 }
 
 impl From<BadWord> for Refusal {
@@ -286,7 +303,7 @@ fn once_words(alloc: Global, words: &[String]) -> Result<Command, Refusal>
 // The first two words as a stamp's seconds and microseconds, and the words behind them.
 #[tactic(auto, unfolding(crate::specs::CommandLine::stamp_then))]
 fn moment_at(words: &[String], at: usize) -> Result<(u32, u32, &[String]), BadWord>
-    requires { at ≤ 3 }
+    requires { at ≤ 4 }
     ensures word { Gives (λ x. (record { sec = x.0; usec = x.1 }, map string_bytes x.2.now)) result (stamp_then at (map string_bytes words.now)) }
     ensures range { IfOk result (λ x. IsMoment record { sec = x.0; usec = x.1 }) }
 {
@@ -495,6 +512,24 @@ fn serve_words(words: &[String]) -> Result<Command, BadWord>
     Ok(Command::Serve(count as u32))
 }
 
+// SAMPLES VOLUME NAME..
+#[tactic(auto, unfolding(crate::specs::CommandLine::pull_of))]
+fn pull_words(alloc: Global, words: &[String]) -> Result<Command, Refusal>
+    ensures command { Reads result (pull_of (map string_bytes words.now)) }
+    ensures fits { IfOk result FitsCommand }
+    ensures call { IfOk result (λ command. call_of command ≡ calls.Pull) }
+{
+    let (samples, rest) = number_at(words, 1, 1, 100_000)?;
+    let (volume, rest) = volume_at(rest, 2)?;
+    let names = names_at(rest, 3)?;
+    let names = texts_of(alloc, names)?;
+    Ok(Command::Pull(PullWords {
+        samples: samples as u32,
+        volume,
+        names,
+    }))
+}
+
 fn record_asked(name: &[u8], words: &[String]) -> Result<Command, BadWord>
     ensures command { Gives (λ command. command) result (if bytes_eq name.now (codes "record") then record_of (map string_bytes words.now) else Err 0) }
     ensures fits { IfOk result FitsCommand }
@@ -517,6 +552,17 @@ fn serve_asked(name: &[u8], words: &[String]) -> Result<Command, BadWord>
     Err(BadWord { at: 0 })
 }
 
+fn pull_asked(alloc: Global, name: &[u8], words: &[String]) -> Result<Command, Refusal>
+    ensures command { Reads result (if bytes_eq name.now (codes "pull") then pull_of (map string_bytes words.now) else Err 0) }
+    ensures fits { IfOk result FitsCommand }
+    ensures call { IfOk result (λ command. call_of command ≡ calls.Pull) }
+{
+    if name == b"pull".as_slice() {
+        return pull_words(alloc, words);
+    }
+    Err(Refusal::Usage { at: 0 })
+}
+
 /// The command that the words ask a call for, or the index of the first word that is bad or missing. A command that isn't known, or is
 /// another call's, is bad at 0.
 pub fn read_words(alloc: Global, call: Call, words: &[String]) -> Result<Command, Refusal>
@@ -537,5 +583,6 @@ pub fn read_words(alloc: Global, call: Call, words: &[String]) -> Result<Command
             let command = serve_asked(name.as_bytes(), rest)?;
             Ok(command)
         }
+        Call::Pull => pull_asked(alloc, name.as_bytes(), rest),
     }
 }

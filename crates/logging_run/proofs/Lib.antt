@@ -1,0 +1,7 @@
+pub mod Events
+pub mod Losing
+pub mod OneArchive
+pub mod Places
+pub mod Finishing
+pub mod Standing
+pub mod Logging

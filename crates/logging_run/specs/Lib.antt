@@ -1,0 +1,8 @@
+pub mod Named
+pub mod Handing
+pub mod Crashes
+pub mod Recovering
+pub mod Closing
+pub mod Running
+pub mod Refusals
+pub mod Laws

@@ -1,0 +1,15 @@
+-- What holds of the runs and the files below.
+use Rattle.logging_run.proofs.Events.{run_items}
+use Rattle.logging_run.proofs.Losing.{loses_one}
+use Rattle.logging_run.specs.Laws.{ItemsAreReports, SureRunsLoseAtMostOne}
+use Rattle.pm_words.proofs.Unreadable.{refused_is_none}
+use Rattle.pm_pulling.proofs.Completes.{RefusesNone}
+
+pub items_are : ItemsAreReports
+items_are = run_items
+
+pub loses : SureRunsLoseAtMostOne
+loses = loses_one
+
+pub refuses_none : RefusesNone
+refuses_none = refused_is_none

@@ -1,0 +1,11 @@
+pub mod All
+pub mod Completes
+pub mod Courses
+pub mod Dialogues
+pub mod Endings
+pub mod Facts
+pub mod Kept
+pub mod Laws
+pub mod Samples
+pub mod Standing
+pub mod Whole

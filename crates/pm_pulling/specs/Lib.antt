@@ -1,0 +1,5 @@
+pub mod Stops
+pub mod Pulling
+pub mod Ends
+pub mod Good
+pub mod Facts

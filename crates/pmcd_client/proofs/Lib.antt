@@ -1,0 +1,14 @@
+pub mod Describing
+pub mod Filling
+pub mod Going
+pub mod Joins
+pub mod Looping
+pub mod Matching
+pub mod One
+pub mod Opened
+pub mod Opening
+pub mod Others
+pub mod Replying
+pub mod Sampling
+pub mod Sent
+pub mod Talking
