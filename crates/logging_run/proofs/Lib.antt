@@ -5,3 +5,4 @@ pub mod Places
 pub mod Finishing
 pub mod Standing
 pub mod Logging
+pub mod Taken

@@ -50,7 +50,7 @@ one_open l left a b (x, w) (y, v) =
     same_written a b same.0 same.1 (one_volume a.files a.contents a.volume b.volume w (last_as a b same.0 same.1 v))
 
 -- this is its last volume
-abbrev IsGood : Written → Type 0
+abbrev pub IsGood : Written → Type 0
 IsGood w = EndsWhole w.files w.contents w.volume
 
 abbrev Good : Stand → Type 0
@@ -61,7 +61,7 @@ opens_good : (l : LabelFields) (left : Files) (w : Written) → Opens l left w �
 opens_good l left w (x, v) = v
 
 -- what a logger keeps of it in numbers is one
-one_count : (w : Written) → IsGood w → (a b : Ends) → EndsAre w a → EndsAre w b → a ≡ b
+pub one_count : (w : Written) → IsGood w → (a b : Ends) → EndsAre w a → EndsAre w b → a ≡ b
 one_count w good a b x y =
     one_ends w.files w.contents a b x.are y.are (subst (λ (n : ℕ). EndsWhole w.files w.contents n) (sym x.volume) good) (subst (λ (n : ℕ). EndsWhole w.files w.contents n) (sym y.volume) good)
 
@@ -140,11 +140,11 @@ module _ (l : LabelFields) (limit : ℕ) where
   one_lead_on (e ∷ events) s a b good (n, step, x) (m, also, y) =
       one_lead_on events n a b (step_good s e n good step) x (subst (λ (k : Stand). Lead l limit k events b) (sym (one_step_on s e n m good step also)) y)
 
-  lead_good : (events : List Event) (s a : Stand) → Good s → Lead l limit s events a → Good a
+  pub lead_good : (events : List Event) (s a : Stand) → Good s → Lead l limit s events a → Good a
   lead_good [] s a good x = subst Good (sym x) good
   lead_good (e ∷ events) s a good (n, step, x) = lead_good events n a (step_good s e n good step) x
 
-  one_lead : (left : Files) (events : List Event) (a b : Stand) → LeadFrom l limit left events a → LeadFrom l limit left events b → a ≡ b
+  pub one_lead : (left : Files) (events : List Event) (a b : Stand) → LeadFrom l limit left events a → LeadFrom l limit left events b → a ≡ b
   one_lead left events a b x y = one_lead_on events (Stand.found left) a b tt x y
 
   pub one_led : (left : Files) (events : List Event) (f g : Files) → LeadsTo l limit left events f → LeadsTo l limit left events g → f ≡ g
@@ -152,7 +152,7 @@ module _ (l : LabelFields) (limit : ℕ) where
 
 -- ---- a result is turned away for one reason
 
-same_opened : (a b : Written) → Stand.opened a ≡ Stand.opened b → a ≡ b
+pub same_opened : (a b : Written) → Stand.opened a ≡ Stand.opened b → a ≡ b
 same_opened a b e = cc
 
 pub one_away : (limit : ℕ) (start : Files) (events : List Event) (r : Report) (a b : LogFault) → a ≢ faults.NoMemory → b ≢ faults.NoMemory → IsTurnedAway limit start events r a → IsTurnedAway limit start events r b → a ≡ b

@@ -10,6 +10,7 @@ use Rattle.logging_session.specs.Written.{Report}
 use Rattle.logging_run.specs.Crashes.{LosesAtMostOne}
 use Rattle.logging_run.specs.Handing.{AreSure, Handed, events_of, items_of_run, reports_of, with_handed}
 use Rattle.logging_run.specs.Named.{run_label}
+use Rattle.logging_run.specs.Recovering.{IsRecovered}
 use Rattle.logging_run.specs.Running.{IsTurnedAway}
 
 -- Of a run whose results are each made sure a crash loses at most one result: the one that was logged last and wasn't made sure yet.
@@ -36,3 +37,8 @@ EventsLeadToOne = (limit : ℕ) (left : Files) (events : List Event) (files othe
 -- An archive turns a result away for one reason.
 abbrev pub TurnedAwayForOne : Type 0
 TurnedAwayForOne = (limit : ℕ) (start : Files) (events : List Event) (r : Report) (a b : LogFault) → a ≢ logs.NoMemory → b ≢ logs.NoMemory → IsTurnedAway limit start events r a → IsTurnedAway limit start events r b → a ≡ b
+
+-- A result that an archive took, and that was made sure, is none that it turns away.
+abbrev pub TakenIsNotTurnedAway : Type 0
+TakenIsNotTurnedAway = (limit : ℕ) (start left : Files) (before after : List Handed) (r : Report) (files : Files) (fault : LogFault) → fault ≢ logs.NoMemory → IsRecovered start left
+    → LeadsTo run_label limit left (closing (events_of (before ++ Handed.sure r ∷ after))) files → IsTurnedAway limit start (events_of before) r fault → ⊥

@@ -45,3 +45,7 @@ fault_of (recovery.Compressed file) = faults.Compressed file
 fault_of (recovery.NotArchive file at) = faults.NotArchive file at
 fault_of recovery.DiskFault = faults.DiskFault
 fault_of recovery.NoMemory = faults.NoMemory
+
+-- a refusal of recovery
+abbrev pub IsOfRecovery : RunFault → Type 0
+IsOfRecovery fault = (why : RecoverFault) × (fault ≡ fault_of why)

@@ -1,5 +1,5 @@
 //! What holds of runs. Each is the contract of a function without parameters, which does nothing.
-ghost use Rattle.logging_run.specs.Laws.{EventsGrow, EventsLeadToOne, ItemsAreReports, SureRunsAreAcknowledged, SureRunsLoseAtMostOne, TurnedAwayForOne};
+ghost use Rattle.logging_run.specs.Laws.{EventsGrow, EventsLeadToOne, ItemsAreReports, SureRunsAreAcknowledged, SureRunsLoseAtMostOne, TakenIsNotTurnedAway, TurnedAwayForOne};
 
 /// Of a run whose results are each made sure a crash loses at most one result, however it ends.
 pub fn sure_runs_lose_at_most_one()
@@ -29,4 +29,9 @@ pub fn events_lead_to_one()
 /// An archive turns a result away for one reason.
 pub fn turned_away_for_one()
     ensures { TurnedAwayForOne }
+{}
+
+/// A result that an archive took is none that it turns away.
+pub fn taken_is_not_turned_away()
+    ensures { TakenIsNotTurnedAway }
 {}

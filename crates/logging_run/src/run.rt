@@ -12,6 +12,7 @@ ghost use Rattle.logging_session.specs.Written.{Report};
 ghost use Rattle.logging_run.specs.declared.fault.RunFault.TheVariants.{DiskFault as Failing};
 ghost use Rattle.logging_run.specs.Closing.{Close, Ran};
 ghost use Rattle.logging_run.specs.Handing.{Handed};
+ghost use Rattle.logging_run.specs.Recovering.{IsOfRecovery};
 ghost use Rattle.logging_run.specs.Refusals.{MayRefuse};
 ghost use Rattle.logging_run.specs.Running.{Fails, IsAllSure, Rests, Runs, Stops};
 
@@ -50,6 +51,7 @@ impl Run {
         ensures unrecovered { D.tells → IfErr result (λ e. Ran D.Disk volume [] disk.old disk.new (Close.unrecovered e)) }
         // Where the files aren't readable nothing is written.
         ensures unread { D.tells → (Readable (contents_of (D.held disk.old)) → ⊥) → LeavesOnly D.moment D.left_since disk.old disk.new (CrashImage (D.held disk.old)) }
+        ensures kinds { IfErr result IsOfRecovery }
         ensures cause { IfErr result (λ e. e ≡ Failing → Rose (D.faults disk.old) (D.faults disk.new)) }
         ensures later { D.faults disk.old ≤ D.faults disk.new }
         ensures quiet { OnOk result (D.faults disk.new ≡ D.faults disk.old) }
@@ -104,7 +106,7 @@ impl Run {
 
     /// Logs a result, which is held to be written with others; where it has no place beside those that are held they are written first. `facts`
     /// describe each metric with values, and list its domain with every instance shown. After a refusal nothing else has changed but that the
-    /// archive may have been opened for the result; after `DiskFault` nothing more is logged.
+    /// archive may have been opened for the result; after `NoMemory` and `DiskFault` nothing more may be logged.
     pub fn log_held<D: Disk>(
         &mut self,
         alloc: Global,

@@ -1,7 +1,7 @@
 -- All facts of a call that pulls follow from how it ends.
 use Rattle.std.proofs.Common.{◌≡◌, ℕ, Ok}
 use Rattle.pcp_outside.specs.Sides.{SinkSide}
-use Rattle.logging_run.specs.Laws.{ItemsAreReports, SureRunsLoseAtMostOne}
+use Rattle.logging_run.specs.Laws.{ItemsAreReports, SureRunsLoseAtMostOne, TakenIsNotTurnedAway, TurnedAwayForOne}
 use Rattle.pm_pulling.specs.Ends.{CallSide, Ends, EndsDone}
 use Rattle.pm_pulling.specs.Facts.{Facts}
 use Rattle.pm_pulling.proofs.Completes.{RefusesNone, completes, told_peer}
@@ -10,7 +10,7 @@ use Rattle.pm_pulling.proofs.Facts.{archive_fault_is_exact, disk_run, failed_at,
 use Rattle.pm_pulling.proofs.Kept.{OnlyNow, any_moment, has_filed, keeps_all, settles, unread, wanting}
 use Rattle.pm_pulling.proofs.Standing.{stands_so}
 
-module _ {D : Type 0} (c : CallSide D) (k : SinkSide) (items_are : ItemsAreReports) (loses : SureRunsLoseAtMostOne) (refuses_none : RefusesNone) (only_now : OnlyNow c k items_are loses) (status : ℕ) (e : Ends c k status) where
+module _ {D : Type 0} (c : CallSide D) (k : SinkSide) (items_are : ItemsAreReports) (loses : SureRunsLoseAtMostOne) (refuses_none : RefusesNone) (taken : TakenIsNotTurnedAway) (once : TurnedAwayForOne) (only_now : OnlyNow c k items_are loses) (status : ℕ) (e : Ends c k status) where
   abbrev saw : Seen c k status
   saw = seen c k status e
 
@@ -28,7 +28,7 @@ module _ {D : Type 0} (c : CallSide D) (k : SinkSide) (items_are : ItemsAreRepor
     write_fault = λ h. write_fault c k status h saw;
     disk_fault = λ h. (disk_run c k status h saw).pulled.why.0;
     archive_fault = archive_fault_is_exact c k items_are loses status saw;
-    run_refused = run_is_exact c k status saw;
+    run_refused = run_is_exact c k refuses_none taken once status saw;
     peer = record { only = λ h. peer_only c k status h saw; always = λ bad. told_peer c k refuses_none bad status saw };
     unrun = λ h. unrun_at c k status saw h;
     dialogue = talked c k status saw;

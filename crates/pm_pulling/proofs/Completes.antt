@@ -1,5 +1,5 @@
 -- What may be pulled is, and a peer whose reply doesn't fit is told.
-use Rattle.std.proofs.Common.{◌≡◌, ◌⊎◌, inl, inr, ⊎_elim, ℕ, ◌<◌, ◌≤◌, List, [], ◌∷◌, ◌++◌, length, length-append, append_assoc, append-nil, refl, sym, ap, ◌∙◌, subst, arith, Some, None, Result, Ok, Err}
+use Rattle.std.proofs.Common.{◌≡◌, ◌≢◌, ◌⊎◌, inl, inr, ⊎_elim, ℕ, ◌<◌, ◌≤◌, List, [], ◌∷◌, ◌++◌, length, length-append, append_assoc, append-nil, refl, sym, ap, ◌∙◌, subst, arith, Some, None, Result, Ok, Err}
 use Rattle.pcp_base.specs.declared.file.FileId.{FileId}
 use Rattle.pcp_model.specs.Archive.{Readable}
 use Rattle.pcp_model.specs.Disk.{Files, contents_of}
@@ -20,9 +20,10 @@ use Rattle.pm_pulling.specs.declared.stop.Stop.{Stop}
 use Rattle.pm_pulling.specs.declared.stop.Stop.TheVariants.{Talk, Archive}
 use Rattle.pm_pulling.specs.Ends.{CallSide, HasRun, Orders}
 use Rattle.pm_pulling.specs.Good.{IsBadPeer, IsClear, IsGoodPull, any_sink, source_of}
-use Rattle.pm_pulling.specs.Pulling.{Came, Pulled, Says, TurnsAway}
+use Rattle.pm_pulling.specs.Pulling.{Came, IsWithin, Pulled, Says, TurnsAway}
 use Rattle.pm_pulling.proofs.Dialogues.{front_broken, not_broken, one_front}
-use Rattle.pm_pulling.proofs.Endings.{Seen, Told}
+use Rattle.pm_pulling.specs.Stops.{away_status}
+use Rattle.pm_pulling.proofs.Endings.{Seen, Told, full_status}
 use Rattle.pm_pulling.proofs.Standing.{broken_so, read_rose, says_so, unbegun_so, write_rose}
 
 -- recovery refuses no files that can be read
@@ -30,7 +31,7 @@ abbrev pub RefusesNone : Type 0
 RefusesNone = (files : Files) (file : FileId) (at : ℕ) → Readable files → IsNoArchive files file at → ⊥
 
 module _ {D : Type 0} (c : CallSide D) (k : SinkSide) (refuses_none : RefusesNone) where
-  order_of : (a b : PullWords) → Orders c.words a → Orders c.words b → a ≡ b
+  pub order_of : (a b : PullWords) → Orders c.words a → Orders c.words b → a ≡ b
   order_of a b is also = let e : Ok (Pull a) ≡ Ok (Pull b) = sym is ∙ also in cc
 
   -- ---- over files and counts that don't stand in the way
@@ -44,40 +45,62 @@ module _ {D : Type 0} (c : CallSide D) (k : SinkSide) (refuses_none : RefusesNon
     abbrev AreFront : (ran : PullWords) → Type 0
     AreFront ran = (shown : List Sample) (s : Standing) → Talks ran.names c.pull.reply c.pull.request shown s → length shown ≤ ran.samples → (extra : List Sample) × (samples ≡ shown ++ extra)
 
-    module _ (fronts : AreFront asked) where
-      away : (fault : LogFault) (result : Result (Unit {0}) Stop) (p : Pulled c.pull asked result) → TurnsAway c.pull asked p.came p.logged p.unlogged p.last p.close fault → ⊥
-      away fault result p t =
-          let says = subst (λ (xs : List Sample). Says Came.stands asked.names c.pull.reply c.pull.request (p.logged ++ xs)) t.shows.one (says_so c.pull asked result p Came.stands t.shows.stands) in
-          let few : length (p.logged ++ t.x ∷ []) ≤ asked.samples = subst (λ (xs : List Sample). length (p.logged ++ xs) ≤ asked.samples) t.shows.one p.most in
-          let found = fronts (p.logged ++ t.x ∷ []) says.0 says.1 few in
-          clear.takes p.logged t.x found.0 fault (found.1 ∙ append_assoc p.logged (t.x ∷ []) found.0) (t.away clear.files)
+    -- or the archive turned a sample away that came, for this reason
+    abbrev pub EndsAway : ℕ → Type 0
+    EndsAway n = (fault : LogFault) × (result : Result (Unit {0}) Stop) × (p : Pulled c.pull asked result) × TurnsAway c.pull asked p.came p.logged p.unlogged p.last p.close fault × (fault ≢ logs.NoMemory) × (n ≡ away_status fault)
 
-      clear_run : (n : ℕ) (result : Result (Unit {0}) Stop) → Pulled c.pull asked result → HasRun c result → Told k result n → EndsClear n
-      clear_run n (Ok done) p ran (inl h) = inl (h, ran)
-      clear_run n (Ok done) p ran (inr (h, rose)) = absurd (clear.sink_kept rose)
-      clear_run n (Err (Talk talks.NoMemory)) p ran (inl h) = inr (inr h)
-      clear_run n (Err (Talk talks.NoMemory)) p ran (inr (h, some)) = inr (inr h)
-      clear_run n (Err (Talk talks.ReadFault)) p ran told = absurd (clear.reply_kept (read_rose asked.names c.pull.reply c.pull.request (p.logged ++ p.unlogged) (broken_so c.pull asked (Err (Talk talks.ReadFault)) p talks.ReadFault p.why.0)))
-      clear_run n (Err (Talk talks.WriteFault)) p ran told = absurd (clear.request_kept (write_rose asked.names c.pull.reply c.pull.request (p.logged ++ p.unlogged) (broken_so c.pull asked (Err (Talk talks.WriteFault)) p talks.WriteFault p.why.0)))
-      clear_run n (Err (Talk (talks.Peer number why))) p ran (inl h) = inr (inl (h, (number, why, ran)))
-      clear_run n (Err (Talk (talks.Peer number why))) p ran (inr (h, some)) = inr (inr h)
-      clear_run n (Err (Archive (runs.Compressed file))) p ran told = let e : None ≡ Some file = sym clear.unwrapped ∙ (unbegun_so c.pull asked (Err (Archive (runs.Compressed file))) p (runs.Compressed file) p.why clear.files).0 in absurd (cc)
-      clear_run n (Err (Archive (runs.NotArchive file at))) p ran told =
-          absurd (refuses_none (contents_of (c.pull.disk.held c.pull.disk_was)) file at clear.readable (unbegun_so c.pull asked (Err (Archive (runs.NotArchive file at))) p (runs.NotArchive file at) p.why clear.files).0.1)
-      clear_run n (Err (Archive (runs.Large bytes))) p ran told = absurd (away (logs.Large bytes) (Err (Archive (runs.Large bytes))) p p.why)
-      clear_run n (Err (Archive (runs.NotLater last))) p ran told = absurd (away (logs.NotLater last) (Err (Archive (runs.NotLater last))) p p.why)
-      clear_run n (Err (Archive (runs.Changed pmid))) p ran told = absurd (away (logs.Changed pmid) (Err (Archive (runs.Changed pmid))) p p.why)
-      clear_run n (Err (Archive (runs.Full file bytes))) p ran told = absurd (away (logs.Full file bytes) (Err (Archive (runs.Full file bytes))) p p.why)
-      clear_run n (Err (Archive runs.NoMemory)) p ran (inl h) = inr (inr h)
-      clear_run n (Err (Archive runs.NoMemory)) p ran (inr (h, some)) = inr (inr h)
-      clear_run n (Err (Archive runs.DiskFault)) p ran told = absurd (clear.disk_kept p.why.0)
+    abbrev pub EndsOpen : ℕ → Type 0
+    EndsOpen n = EndsClear n ⊎ EndsAway n
+
+    is_nine : (n : ℕ) → n ≡ 9 → EndsOpen n
+    is_nine n h = inl (inr (inr h))
+
+    open_run : (n : ℕ) (result : Result (Unit {0}) Stop) → Pulled c.pull asked result → HasRun c result → Told k result n → EndsOpen n
+    open_run n (Ok done) p ran (inl h) = inl (inl (h, ran))
+    open_run n (Ok done) p ran (inr (h, rose)) = absurd (clear.sink_kept rose)
+    open_run n (Err (Talk talks.NoMemory)) p ran (inl h) = is_nine n h
+    open_run n (Err (Talk talks.NoMemory)) p ran (inr (h, some)) = is_nine n h
+    open_run n (Err (Talk talks.ReadFault)) p ran told = absurd (clear.reply_kept (read_rose asked.names c.pull.reply c.pull.request (p.logged ++ p.unlogged) (broken_so c.pull asked (Err (Talk talks.ReadFault)) p talks.ReadFault p.why.0)))
+    open_run n (Err (Talk talks.WriteFault)) p ran told = absurd (clear.request_kept (write_rose asked.names c.pull.reply c.pull.request (p.logged ++ p.unlogged) (broken_so c.pull asked (Err (Talk talks.WriteFault)) p talks.WriteFault p.why.0)))
+    open_run n (Err (Talk (talks.Peer number why))) p ran (inl h) = inl (inr (inl (h, (number, why, ran))))
+    open_run n (Err (Talk (talks.Peer number why))) p ran (inr (h, some)) = is_nine n h
+    open_run n (Err (Archive (runs.Compressed file))) p ran told = let e : None ≡ Some file = sym clear.unwrapped ∙ (unbegun_so c.pull asked (Err (Archive (runs.Compressed file))) p (runs.Compressed file) p.why clear.files).0 in absurd (cc)
+    open_run n (Err (Archive (runs.NotArchive file at))) p ran told =
+        absurd (refuses_none (contents_of (c.pull.disk.held c.pull.disk_was)) file at clear.readable (unbegun_so c.pull asked (Err (Archive (runs.NotArchive file at))) p (runs.NotArchive file at) p.why clear.files).0.1)
+    open_run n (Err (Archive (runs.Large bytes))) p ran (inl h) = inr (logs.Large bytes, Err (Archive (runs.Large bytes)), p, p.why, (λ e. cc), h)
+    open_run n (Err (Archive (runs.Large bytes))) p ran (inr (h, some)) = is_nine n h
+    open_run n (Err (Archive (runs.NotLater last))) p ran (inl h) = inr (logs.NotLater last, Err (Archive (runs.NotLater last)), p, p.why, (λ e. cc), h)
+    open_run n (Err (Archive (runs.NotLater last))) p ran (inr (h, some)) = is_nine n h
+    open_run n (Err (Archive (runs.Changed pmid))) p ran (inl h) = inr (logs.Changed pmid, Err (Archive (runs.Changed pmid)), p, p.why, (λ e. cc), h)
+    open_run n (Err (Archive (runs.Changed pmid))) p ran (inr (h, some)) = is_nine n h
+    open_run n (Err (Archive (runs.Full file bytes))) p ran (inl h) = inr (logs.Full file bytes, Err (Archive (runs.Full file bytes)), p, p.why, (λ e. cc), h ∙ full_status file bytes)
+    open_run n (Err (Archive (runs.Full file bytes))) p ran (inr (h, some)) = is_nine n h
+    open_run n (Err (Archive runs.NoMemory)) p ran (inl h) = is_nine n h
+    open_run n (Err (Archive runs.NoMemory)) p ran (inr (h, some)) = is_nine n h
+    open_run n (Err (Archive runs.DiskFault)) p ran told = absurd (clear.disk_kept p.why.0)
+
+    pub open_end : (n : ℕ) → Orders c.words asked → Seen c k n → EndsOpen n
+    open_end n orders (inl (Usage at, refused, told)) = let e = sym refused.cause ∙ orders in absurd (cc)
+    open_end n orders (inl (NoMemory, refused, inl h)) = is_nine n h
+    open_end n orders (inl (NoMemory, refused, inr (h, some))) = is_nine n h
+    open_end n orders (inl (e, refused, told)) = absurd refused.cause
+    open_end n orders (inr (result, ran, told)) = open_run n result (subst (λ (a : PullWords). Pulled c.pull a result) (order_of ran.asked asked ran.orders orders) ran.pulled) ran told
+
+    module _ (fronts : AreFront asked) where
+      away : (fault : LogFault) → fault ≢ logs.NoMemory → (result : Result (Unit {0}) Stop) (p : Pulled c.pull asked result) → TurnsAway c.pull asked p.came p.logged p.unlogged p.last p.close fault → ⊥
+      away fault known result p t =
+          let says = subst (λ (xs : List Sample). Says Came.stands asked.names c.pull.reply c.pull.request (p.logged ++ xs)) t.shows.one (says_so c.pull asked result p Came.stands t.shows.stands) in
+          let most : length (p.logged ++ p.unlogged) ≤ asked.samples = subst (λ (x : Came). IsWithin x (length (p.logged ++ p.unlogged)) asked.samples) t.shows.stands p.most in
+          let few : length (p.logged ++ t.x ∷ []) ≤ asked.samples = subst (λ (xs : List Sample). length (p.logged ++ xs) ≤ asked.samples) t.shows.one most in
+          let found = fronts (p.logged ++ t.x ∷ []) says.0 says.1 few in
+          clear.takes p.logged t.x found.0 fault known (found.1 ∙ append_assoc p.logged (t.x ∷ []) found.0) (t.away clear.files)
+
+      clear_of : (n : ℕ) → EndsOpen n → EndsClear n
+      clear_of n (inl ends) = ends
+      clear_of n (inr (fault, result, p, t, known, is)) = absurd (away fault known result p t)
 
     clear_end : (n : ℕ) → Orders c.words asked → AreFront asked → Seen c k n → EndsClear n
-    clear_end n orders fronts (inl (Usage at, refused, told)) = let e = sym refused.cause ∙ orders in absurd (cc)
-    clear_end n orders fronts (inl (NoMemory, refused, inl h)) = inr (inr h)
-    clear_end n orders fronts (inl (NoMemory, refused, inr (h, some))) = inr (inr h)
-    clear_end n orders fronts (inl (e, refused, told)) = absurd refused.cause
-    clear_end n orders fronts (inr (result, ran, told)) = clear_run fronts n result (subst (λ (a : PullWords). Pulled c.pull a result) (order_of ran.asked asked ran.orders orders) ran.pulled) ran told
+    clear_end n orders fronts saw = clear_of fronts n (open_end n orders saw)
 
   longer_front : (shown samples extra : List Sample) (n : ℕ) → shown ≡ samples ++ extra → length shown ≤ n → length samples ≡ n → (more : List Sample) × (samples ≡ shown ++ more)
   longer_front shown samples [] n are few many = ([], sym (append-nil samples) ∙ sym are ∙ sym (append-nil shown))

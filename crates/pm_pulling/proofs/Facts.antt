@@ -9,8 +9,8 @@ use Rattle.logging_run.specs.declared.fault.RunFault.TheVariants as runs
 use Rattle.logging_run.specs.Closing.{Close, HasFailed}
 use Rattle.logging_run.specs.Crashes.{LosesAtMostOne}
 use Rattle.logging_run.specs.Handing.{events_of}
-use Rattle.logging_run.specs.Laws.{ItemsAreReports, SureRunsLoseAtMostOne}
-use Rattle.logging_run.specs.Recovering.{IsUnrecovered}
+use Rattle.logging_run.specs.Laws.{ItemsAreReports, SureRunsLoseAtMostOne, TakenIsNotTurnedAway, TurnedAwayForOne}
+use Rattle.logging_run.specs.Recovering.{HasRecovered, IsUnrecovered}
 use Rattle.pmcd_client.specs.declared.faults.ReplyFault.{ReplyFault}
 use Rattle.pmcd_client.specs.declared.faults.TalkFault.TheVariants as talks
 use Rattle.pm_words.specs.declared.refusal.Refusal.TheVariants.{Usage, NoMemory}
@@ -23,6 +23,8 @@ use Rattle.pm_pulling.specs.declared.stop.Stop.TheVariants.{Talk, Archive}
 use Rattle.pm_pulling.specs.Ends.{CallSide, EndsDone, HasRun, IsUnrun, Orders}
 use Rattle.pm_pulling.specs.Facts.{ArchiveFaultIsExact, FilesCause, HasFiled, HasTalked, RunIsExact, StandsFailed, WriteFaultCause}
 use Rattle.pm_pulling.specs.Pulling.{HasFailed as Fails, IsSilent, handed_in}
+use Rattle.pm_pulling.proofs.Completes.{RefusesNone}
+use Rattle.pm_pulling.proofs.Declined.{told_away}
 use Rattle.pm_pulling.proofs.Endings.{Seen, Told, by_end, by_run, end_status, full_status, is_early, told_one}
 use Rattle.pm_pulling.proofs.Standing.{Stands, Unbegun, any_loses, broken_so, came_so, read_rose, silent_so, stands, unbegun_so, write_rose}
 
@@ -126,11 +128,12 @@ module _ {D : Type 0} (c : CallSide D) (k : SinkSide) where
   changed_at (Err (Talk talks.WriteFault)) ran h = absurd (omega (arith, h))
   changed_at result ran h = absurd (omega (arith, h))
 
-  pub run_is_exact : (n : ℕ) → Seen c k n → RunIsExact c n
-  run_is_exact n saw = record {
+  pub run_is_exact : RefusesNone → TakenIsNotTurnedAway → TurnedAwayForOne → (n : ℕ) → Seen c k n → RunIsExact c k n
+  run_is_exact refuses_none taken once n saw = record {
     limit = λ is. by_end c k 7 (λ h. omega (arith, h)) (λ h. omega (arith, h)) (λ h. omega (arith, h)) limit_at (subst (Seen c k) is saw);
     not_later = λ is. by_end c k 12 (λ h. omega (arith, h)) (λ h. omega (arith, h)) (λ h. omega (arith, h)) late_at (subst (Seen c k) is saw);
     changed = λ is. by_end c k 13 (λ h. omega (arith, h)) (λ h. omega (arith, h)) (λ h. omega (arith, h)) changed_at (subst (Seen c k) is saw);
+    always = λ fault other untaken. told_away c k refuses_none taken once fault other untaken n saw;
   }
 
   -- files that are turned away
@@ -163,20 +166,21 @@ module _ {D : Type 0} (c : CallSide D) (k : SinkSide) where
     pub failed_at : (n : ℕ) → n ≡ 5 → Seen c k n → StandsFailed c
     failed_at n is saw = failed_with (disk_run n is saw)
 
-    -- ---- a file that stands wrapped
+    -- ---- files that recovery turns away
 
-    module _ (tells : c.pull.disk.tells) (file : FileId) (wraps : c.pull.disk.wrapped_file c.pull.disk_was ≡ Some file) where
+    module _ (tells : c.pull.disk.tells) (never : (middle : D) → HasRecovered c.pull.disk c.pull.disk_was middle → ⊥) where
       not_filed : (result : Result (Unit {0}) Stop) (ran : HasRun c result) → HasFiled c ran → ⊥
-      not_filed result ran has = let e : None ≡ Some file = sym (has.flushed tells).recovered.unwrapped ∙ wraps in cc
+      not_filed result ran has = let flushed = has.flushed tells in never flushed.middle flushed.recovered
 
       not_failed : (result : Result (Unit {0}) Stop) (ran : HasRun c result) → Fails c.pull ran.asked ran.pulled.came ran.pulled.logged ran.pulled.unlogged ran.pulled.last ran.pulled.close → ⊥
-      not_failed result ran f = let has = came_so c.pull ran.asked result ran.pulled (Close.failed f.lost) f.closed tells in let e : None ≡ Some file = sym has.recovered.unwrapped ∙ wraps in cc
+      not_failed result ran f = let has = came_so c.pull ran.asked result ran.pulled (Close.failed f.lost) f.closed tells in never has.middle has.recovered
 
-      -- what isn't recovered then is compressed, or wants memory, or its disk failed
+      -- what isn't recovered then is turned away, or wants memory, or its disk failed
       unrecovered : (fault : RunFault) (n : ℕ) → IsUnrecovered c.pull.disk c.pull.disk_was fault c.pull.disk_is → Told k (Err (Archive fault)) n → (n ≡ 6) ⊎ ((n ≡ 9) ⊎ (n ≡ 5))
       unrecovered (runs.Compressed f) n u (inl h) = inl h
       unrecovered (runs.Compressed f) n u (inr (h, some)) = inr (inl h)
-      unrecovered (runs.NotArchive f at) n u told = let e : None ≡ Some file = sym u.0.0 ∙ wraps in absurd (cc)
+      unrecovered (runs.NotArchive f at) n u (inl h) = inl h
+      unrecovered (runs.NotArchive f at) n u (inr (h, some)) = inr (inl h)
       unrecovered runs.NoMemory n u (inl h) = inr (inl h)
       unrecovered runs.NoMemory n u (inr (h, some)) = inr (inl h)
       unrecovered runs.DiskFault n u (inl h) = inr (inr h)
@@ -187,22 +191,26 @@ module _ {D : Type 0} (c : CallSide D) (k : SinkSide) where
       by_stands n result ran told (inl (fault, of_files, is, u)) = unrecovered fault n (unbegun_so c.pull ran.asked result ran.pulled fault u tells) (subst (λ (x : Result (Unit {0}) Stop). Told k x n) is told)
       by_stands n result ran told (inr (closed, has)) = absurd (not_filed result ran has)
 
-      wrapped_run : (n : ℕ) (result : Result (Unit {0}) Stop) → HasRun c result → Told k result n → (n ≡ 6) ⊎ ((n ≡ 9) ⊎ (n ≡ 5))
-      wrapped_run n (Err (Archive runs.DiskFault)) ran (inl h) = inr (inr h)
-      wrapped_run n (Err (Archive runs.DiskFault)) ran (inr (h, some)) = inr (inl h)
-      wrapped_run n (Err (Talk fault)) ran told = by_stands n (Err (Talk fault)) ran told (stands c items_are loses (Err (Talk fault)) (λ e. cc) ran)
-      wrapped_run n (Ok done) ran told = by_stands n (Ok done) ran told (stands c items_are loses (Ok done) (λ e. cc) ran)
-      wrapped_run n (Err (Archive fault)) ran told = by_stands n (Err (Archive fault)) ran told (stands c items_are loses (Err (Archive fault)) (λ e. cc) ran)
+      away_run : (n : ℕ) (result : Result (Unit {0}) Stop) → HasRun c result → Told k result n → (n ≡ 6) ⊎ ((n ≡ 9) ⊎ (n ≡ 5))
+      away_run n (Err (Archive runs.DiskFault)) ran (inl h) = inr (inr h)
+      away_run n (Err (Archive runs.DiskFault)) ran (inr (h, some)) = inr (inl h)
+      away_run n (Err (Talk fault)) ran told = by_stands n (Err (Talk fault)) ran told (stands c items_are loses (Err (Talk fault)) (λ e. cc) ran)
+      away_run n (Ok done) ran told = by_stands n (Ok done) ran told (stands c items_are loses (Ok done) (λ e. cc) ran)
+      away_run n (Err (Archive fault)) ran told = by_stands n (Err (Archive fault)) ran told (stands c items_are loses (Err (Archive fault)) (λ e. cc) ran)
 
-      wrapped : (n : ℕ) (asked : PullWords) → Orders c.words asked → Seen c k n → (n ≡ 6) ⊎ ((n ≡ 9) ⊎ (n ≡ 5))
-      wrapped n asked orders (inl (Usage at, refused, told)) = let e = sym refused.cause ∙ orders in absurd (cc)
-      wrapped n asked orders (inl (NoMemory, refused, inl h)) = inr (inl h)
-      wrapped n asked orders (inl (NoMemory, refused, inr (h, some))) = inr (inl h)
-      wrapped n asked orders (inl (e, refused, told)) = absurd refused.cause
-      wrapped n asked orders (inr (result, ran, told)) = wrapped_run n result ran told
+      goes_away : (n : ℕ) (asked : PullWords) → Orders c.words asked → Seen c k n → (n ≡ 6) ⊎ ((n ≡ 9) ⊎ (n ≡ 5))
+      goes_away n asked orders (inl (Usage at, refused, told)) = let e = sym refused.cause ∙ orders in absurd (cc)
+      goes_away n asked orders (inl (NoMemory, refused, inl h)) = inr (inl h)
+      goes_away n asked orders (inl (NoMemory, refused, inr (h, some))) = inr (inl h)
+      goes_away n asked orders (inl (e, refused, told)) = absurd refused.cause
+      goes_away n asked orders (inr (result, ran, told)) = away_run n result ran told
+
+    wrapped_never : (file : FileId) → c.pull.disk.wrapped_file c.pull.disk_was ≡ Some file → (middle : D) → HasRecovered c.pull.disk c.pull.disk_was middle → ⊥
+    wrapped_never file wraps middle has = let e : None ≡ Some file = sym has.unwrapped ∙ wraps in cc
 
     pub archive_fault_is_exact : (n : ℕ) → Seen c k n → ArchiveFaultIsExact c n
     archive_fault_is_exact n saw = record {
       only = λ is. let away = turned_away n is saw in (away.0, away.1);
-      always = λ asked orders tells file wraps. wrapped tells file wraps n asked orders saw;
+      always = λ asked orders tells file wraps. goes_away tells (wrapped_never file wraps) n asked orders saw;
+      unreadable = λ asked orders tells none. goes_away tells (λ middle has. none (has.was.reading, has.was.was)) n asked orders saw;
     }

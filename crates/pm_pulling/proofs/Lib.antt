@@ -1,6 +1,7 @@
 pub mod All
 pub mod Completes
 pub mod Courses
+pub mod Declined
 pub mod Dialogues
 pub mod Endings
 pub mod Facts

@@ -9,6 +9,8 @@ use Rattle.pcp_model.specs.Disk.{Files, CrashImage, IsSettled, contents_of}
 use Rattle.pcp_outside.specs.Causes.{Rose}
 use Rattle.pcp_outside.specs.Sides.{SinkSide}
 use Rattle.archive_recovery.specs.RecoverFaults.{IsRefused as IsNoArchive}
+use Rattle.logger_core.specs.declared.fault.LogFault.{LogFault}
+use Rattle.logger_core.specs.declared.fault.LogFault.TheVariants as logs
 use Rattle.logging_session.specs.Events.{closing}
 use Rattle.logging_run.specs.declared.fault.RunFault.TheVariants as runs
 use Rattle.logging_run.specs.Closing.{HasFailed, HasFlushed}
@@ -24,8 +26,9 @@ use Rattle.pm_words.specs.Sides.{IsUnread, Leaves}
 use Rattle.pm_pulling.specs.declared.stop.Stop.{Stop}
 use Rattle.pm_pulling.specs.declared.stop.Stop.TheVariants.{Talk, Archive}
 use Rattle.pm_pulling.specs.Ends.{CallSide, Ends, EndsDone, HasRun, IsUnrun, MayBeLeft, Orders}
-use Rattle.pm_pulling.specs.Good.{IsBadPeer, IsGoodPull}
-use Rattle.pm_pulling.specs.Pulling.{Came, IsSilent, Says, handed_in}
+use Rattle.pm_pulling.specs.Good.{IsBadPeer, IsGoodPull, IsUntakenSample}
+use Rattle.pm_pulling.specs.Pulling.{Came, IsSilent, IsWithin, Says, handed_in}
+use Rattle.pm_pulling.specs.Stops.{away_status}
 
 -- ---- causes
 
@@ -39,17 +42,21 @@ abbrev pub FilesCause : {D : Type 0} → CallSide D → Type 0
 FilesCause c = ((file : FileId) × HasRun c (Err (Archive (runs.Compressed file))) × (c.pull.disk.tells → c.pull.disk.wrapped_file c.pull.disk_was ≡ Some file))
     ⊎ ((file : FileId) × (at : ℕ) × HasRun c (Err (Archive (runs.NotArchive file at))) × (c.pull.disk.tells → IsNoArchive (contents_of (c.pull.disk.held c.pull.disk_was)) file at))
 
--- 6 only where they are, and then nothing was asked of the peer; always where a file stands wrapped, unless the disk fails before
+-- 6 only where they are, and then nothing was asked of the peer; always where a file stands wrapped or the files can't be read, unless the disk
+-- fails before
 pub record ArchiveFaultIsExact {D : Type 0} (c : CallSide D) (status : ℕ) : Type 0 where
   pub only : status ≡ 6 → FilesCause c × IsSilent c.pull.reply c.pull.request
   pub always : (asked : PullWords) → Orders c.words asked → c.pull.disk.tells → (file : FileId) → c.pull.disk.wrapped_file c.pull.disk_was ≡ Some file → (status ≡ 6) ⊎ ((status ≡ 9) ⊎ (status ≡ 5))
+  pub unreadable : (asked : PullWords) → Orders c.words asked → c.pull.disk.tells → IsUnread c.pull.disk c.pull.disk_was → (status ≡ 6) ⊎ ((status ≡ 9) ⊎ (status ≡ 5))
 
 -- 7, 12 and 13 only where the archive to which what was logged leads doesn't take the next sample: its record or a file would be too long, it isn't
--- later than all that is there, or a metric is described otherwise.
-pub record RunIsExact {D : Type 0} (c : CallSide D) (status : ℕ) : Type 0 where
+-- later than all that is there, or a metric is described otherwise. Always where it doesn't take one of the samples that are asked for, and nothing
+-- else stands in the way.
+pub record RunIsExact {D : Type 0} (c : CallSide D) (k : SinkSide) (status : ℕ) : Type 0 where
   pub limit : status ≡ 7 → ((bytes : ℕ) × HasRun c (Err (Archive (runs.Large bytes)))) ⊎ ((file : FileId) × (number : ℕ) × HasRun c (Err (Archive (runs.Full file number))))
   pub not_later : status ≡ 12 → (last : Moment) × HasRun c (Err (Archive (runs.NotLater last)))
   pub changed : status ≡ 13 → (pmid : ℕ) × HasRun c (Err (Archive (runs.Changed pmid)))
+  pub always : (fault : LogFault) → fault ≢ logs.NoMemory → IsUntakenSample c k fault → (status ≡ away_status fault) ⊎ (status ≡ 9)
 
 -- 16 only where the reply with this number is the first that doesn't fit, for this reason; always where the replies hold such a one within the
 -- samples that are asked for, and nothing else stands in the way.
@@ -63,7 +70,7 @@ pub record PeerIsExact {D : Type 0} (c : CallSide D) (k : SinkSide) (status : �
 -- these replies, of at most as many samples as are asked for. Where a request couldn't be written a front of it was.
 abbrev pub HasTalked : {D : Type 0} → CallSide D → Type 0
 HasTalked c = IsSilent c.pull.reply c.pull.request
-    ⊎ ((asked : PullWords) × Orders c.words asked × (came : Came) × (samples : List Sample) × Says came asked.names c.pull.reply c.pull.request samples × (length samples ≤ asked.samples))
+    ⊎ ((asked : PullWords) × Orders c.words asked × (came : Came) × (samples : List Sample) × Says came asked.names c.pull.reply c.pull.request samples × IsWithin came (length samples) asked.samples)
 
 -- ---- the files
 
@@ -114,7 +121,7 @@ pub record Facts {D : Type 0} (c : CallSide D) (k : SinkSide) (status : ℕ) : T
   pub write_fault : status ≡ 4 → WriteFaultCause c k
   pub disk_fault : status ≡ 5 → Rose (c.pull.disk.faults c.pull.disk_was) (c.pull.disk.faults c.pull.disk_is)
   pub archive_fault : ArchiveFaultIsExact c status
-  pub run_refused : RunIsExact c status
+  pub run_refused : RunIsExact c k status
   pub peer : PeerIsExact c k status
   -- Refused words touch nothing.
   pub unrun : status ≡ 1 → IsUnrun c.pull

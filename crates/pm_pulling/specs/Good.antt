@@ -1,11 +1,12 @@
 -- What a call needs to be done, and what stands in its way: replies that fit, files that can be read, samples that the archive takes, and no count
 -- that rises.
-use Rattle.std.specs.Prelude.{◌≡◌, ℕ, ◌<◌, List, [], ◌∷◌, ◌++◌, length, get_or, None}
+use Rattle.std.specs.Prelude.{◌≡◌, ◌≢◌, ℕ, ◌<◌, List, [], ◌∷◌, ◌++◌, length, get_or, None}
 use Rattle.pcp_model.specs.Archive.{Readable}
-use Rattle.pcp_model.specs.Disk.{contents_of}
+use Rattle.pcp_model.specs.Disk.{Files, contents_of}
 use Rattle.pcp_outside.specs.Causes.{Rose}
 use Rattle.pcp_outside.specs.Sides.{SourceSide, SinkSide}
 use Rattle.logger_core.specs.declared.fault.LogFault.{LogFault}
+use Rattle.logger_core.specs.declared.fault.LogFault.TheVariants as logs
 use Rattle.logging_run.specs.Handing.{events_of}
 use Rattle.logging_run.specs.Running.{IsTurnedAway}
 use Rattle.pmcd_client.specs.declared.faults.ReplyFault.{ReplyFault}
@@ -39,11 +40,11 @@ Misfits names bytes samples number why = (rest : List ℕ) × BreaksOff names (s
 
 -- ---- what else may stand in the way
 
--- the archive takes each of these samples, logged one behind another over what recovery leaves
-abbrev pub TakesEach : {D : Type 0} → CallSide D → PullWords → List Sample → Type 0
-TakesEach c asked samples =
-    (before : List Sample) (x : Sample) (rest : List Sample) (fault : LogFault) → samples ≡ before ++ x ∷ rest
-    → IsTurnedAway asked.volume (contents_of (c.pull.disk.held c.pull.disk_was)) (events_of (all_sure before)) (report_of x) fault → ⊥
+-- over what recovery leaves of these files the archive takes each of these samples, logged one behind another
+abbrev pub TakesEach : ℕ → Files → List Sample → Type 0
+TakesEach limit start samples =
+    (before : List Sample) (x : Sample) (rest : List Sample) (fault : LogFault) → fault ≢ logs.NoMemory → samples ≡ before ++ x ∷ rest
+    → IsTurnedAway limit start (events_of (all_sure before)) (report_of x) fault → ⊥
 
 -- The peer's replies can be told, the files can be read and none stands wrapped, the archive takes these samples, and no count rose.
 pub record IsClear {D : Type 0} (c : CallSide D) (k : SinkSide) (asked : PullWords) (samples : List Sample) : Type 0 where
@@ -52,7 +53,7 @@ pub record IsClear {D : Type 0} (c : CallSide D) (k : SinkSide) (asked : PullWor
   pub files : c.pull.disk.tells
   pub unwrapped : c.pull.disk.wrapped_file c.pull.disk_was ≡ None
   pub readable : Readable (contents_of (c.pull.disk.held c.pull.disk_was))
-  pub takes : TakesEach c asked samples
+  pub takes : TakesEach asked.volume (contents_of (c.pull.disk.held c.pull.disk_was)) samples
   pub reply_kept : Rose c.pull.reply.faults c.pull.reply.faults_after → ⊥
   pub request_kept : Rose c.pull.request.faults c.pull.request.faults_after → ⊥
   pub disk_kept : Rose (c.pull.disk.faults c.pull.disk_was) (c.pull.disk.faults c.pull.disk_is) → ⊥
@@ -77,3 +78,15 @@ pub record IsBadPeer {D : Type 0} (c : CallSide D) (k : SinkSide) : Type 0 where
   pub why : ReplyFault
   pub misfits : Misfits asked.names c.pull.reply.left samples number why
   pub clear : IsClear c k asked samples
+
+-- The replies give these samples and then one more, within those that are asked for. The archive takes those and not this one, for this reason, and
+-- nothing else stands in the way.
+pub record IsUntakenSample {D : Type 0} (c : CallSide D) (k : SinkSide) (fault : LogFault) : Type 0 where
+  pub asked : PullWords
+  pub orders : Orders c.words asked
+  pub before : List Sample
+  pub few : length before < asked.samples
+  pub x : Sample
+  pub offers : Offers asked.names c.pull.reply.left (before ++ x ∷ [])
+  pub away : IsTurnedAway asked.volume (contents_of (c.pull.disk.held c.pull.disk_was)) (events_of (all_sure before)) (report_of x) fault
+  pub clear : IsClear c k asked before

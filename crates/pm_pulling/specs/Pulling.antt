@@ -94,6 +94,16 @@ abbrev pub LogsAll : {D : Type 0} → PullSide D → List (List ℕ) → ℕ →
 LogsAll p names limit count run (Ok done) = (samples : List Sample) × (length samples ≡ count) × (s : Standing) × GoesOn p names limit samples s run
 LogsAll p names limit count run (Err stop) = (samples : List Sample) × (length samples < count) × StopsBehind p names limit samples run stop
 
+-- a dialogue that broke off did so before all samples that are asked for had come
+abbrev pub IsWithin : Came → ℕ → ℕ → Type 0
+IsWithin Came.silent shown asked = shown ≡ 0
+IsWithin Came.stands shown asked = shown ≤ asked
+IsWithin (Came.broken fault) shown asked = shown < asked
+
+-- where the dialogue broke off each sample that had come was logged
+abbrev pub IsBehindNone : Came → List Sample → Type 0
+IsBehindNone came unlogged = (fault : TalkFault) → came ≡ Came.broken fault → unlogged ≡ []
+
 -- ---- how it ended
 
 module _ {D : Type 0} (p : PullSide D) (asked : PullWords) (came : Came) (logged unlogged : List Sample) (last : List Handed) (close : Close) where
@@ -126,9 +136,10 @@ module _ {D : Type 0} (p : PullSide D) (asked : PullWords) (came : Came) (logged
     pub shows : ShowsLast x
     pub handed : (last ≡ []) ⊎ (last ≡ Handed.refused (report_of x) ∷ [])
 
-  -- the disk failed once the files were recovered
+  -- The disk failed once the files were recovered. Where a sample came that isn't logged nothing was asked behind it.
   pub record HasFailed : Type 0 where
     pub begun : came ≢ Came.silent
+    pub behind : IsBehindNone came unlogged
     pub lost : ℕ
     pub closed : close ≡ Close.failed lost
 
@@ -156,7 +167,7 @@ pub record Pulled {D : Type 0} (p : PullSide D) (asked : PullWords) (result : Re
   pub logged : List Sample
   pub unlogged : List Sample
   pub says : Says came asked.names p.reply p.request (logged ++ unlogged)
-  pub most : length (logged ++ unlogged) ≤ asked.samples
+  pub most : IsWithin came (length (logged ++ unlogged)) asked.samples
   pub last : List Handed
   pub is_last : IsLast unlogged last
   pub close : Close

@@ -2,6 +2,8 @@
 use Rattle.std.specs.Prelude.{ℕ, Option, Some, None}
 use Rattle.pcp_base.specs.declared.file.FileId.{FileId}
 use Rattle.pcp_base.specs.declared.file.FileId.TheVariants as files
+use Rattle.logger_core.specs.declared.fault.LogFault.{LogFault}
+use Rattle.logger_core.specs.declared.fault.LogFault.TheVariants as logs
 use Rattle.logging_run.specs.declared.fault.RunFault.{RunFault}
 use Rattle.logging_run.specs.declared.fault.RunFault.TheVariants as runs
 use Rattle.pmcd_client.specs.declared.faults.ReplyFault.{ReplyFault}
@@ -14,13 +16,6 @@ use Rattle.pm_words.specs.declared.refusal.Refusal.{Refusal}
 use Rattle.pm_words.specs.declared.refusal.Refusal.TheVariants as refusals
 use Rattle.pm_pulling.specs.declared.stop.Stop.{Stop}
 use Rattle.pm_pulling.specs.declared.stop.Stop.TheVariants.{Talk, Archive}
-
--- why the files aren't recovered: a beginning turns no sample away
-abbrev pub begin_fault : RunFault → RunFault
-begin_fault (runs.Compressed file) = runs.Compressed file
-begin_fault (runs.NotArchive file at) = runs.NotArchive file at
-begin_fault runs.DiskFault = runs.DiskFault
-begin_fault fault = runs.NoMemory
 
 -- why a reply doesn't fit
 abbrev pub peer_fault : ReplyFault → PeerFault
@@ -55,3 +50,9 @@ stop_refusal (Talk talks.ReadFault) = Some refusals.ReadFault
 stop_refusal (Talk talks.WriteFault) = None
 stop_refusal (Talk (talks.Peer reply why)) = Some (refusals.Peer reply (peer_fault why))
 stop_refusal (Archive fault) = Some (archive_refusal fault)
+
+-- the status where the archive doesn't take a sample: its record or a file would be too long, but for these
+abbrev pub away_status : LogFault → ℕ
+away_status (logs.NotLater last) = 12
+away_status (logs.Changed pmid) = 13
+away_status fault = 7

@@ -2,9 +2,11 @@
 //! some of them, and each sample is logged into the archive and made sure. It answers the exit status, each with its cause.
 #![tactic(auto)]
 
+mod laws;
 mod pulling;
 mod sampling;
 mod stop;
 mod top;
 
+pub use laws::led_samples_are_taken;
 pub use top::pull;

@@ -6,7 +6,7 @@ ghost use Rattle.pm_words.specs.CommandLine.{FitsCommand};
 ghost use Rattle.pm_words.specs.declared.words.Command.TheVariants.{Pull as Pulling};
 
 use crate::sampling::log_samples;
-use crate::stop::{Stop, begin_fault};
+use crate::stop::Stop;
 use logging_run::Run;
 use pcp_outside::{Disk, Sink, Source, Turn};
 use pm_words::PullWords;
@@ -27,7 +27,7 @@ pub(crate) fn pull_samples<I: Source, L: Sink, D: Disk, T: Turn>(
 {
     let mut run = match Run::begin(alloc, disk, asked.volume) {
         Ok(run) => run,
-        Err(fault) => return Err(Stop::Archive(begin_fault(fault))),
+        Err(fault) => return Err(Stop::Archive(fault)),
     };
     let logged = log_samples(alloc, asked, &mut run, reply, request, disk, turn);
     match run.finish(disk) {

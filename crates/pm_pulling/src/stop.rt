@@ -1,6 +1,6 @@
 //! Why a call ends before all its samples are logged, and what is told of it.
 ghost use Rattle.std.specs.Prelude.{◌≡◌};
-ghost use Rattle.pm_pulling.specs.Stops.{archive_refusal, begin_fault, full_refusal, peer_fault, stop_refusal};
+ghost use Rattle.pm_pulling.specs.Stops.{archive_refusal, full_refusal, peer_fault, stop_refusal};
 
 use logging_run::RunFault;
 use pcp_base::FileId;
@@ -34,16 +34,6 @@ impl From<RunFault> for Stop {
 
     fn from(fault: RunFault) -> Stop {
         Stop::Archive(fault)
-    }
-}
-
-/// Why the files aren't recovered. A beginning turns no sample away, so that no other fault comes.
-pub(crate) fn begin_fault(fault: RunFault) -> RunFault
-    ensures { result ≡ begin_fault fault }
-{
-    match fault {
-        RunFault::Compressed { .. } | RunFault::NotArchive { .. } | RunFault::DiskFault => fault,
-        _ => RunFault::NoMemory,
     }
 }
 

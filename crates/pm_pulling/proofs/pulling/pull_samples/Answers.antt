@@ -1,8 +1,9 @@
 -- What was pulled, whatever ended it.
-use Rattle.std.proofs.Common.{refl, sym, subst, Ok, Err}
+use Rattle.std.proofs.Common.{[], refl, sym, ◌∙◌, subst, Ok, Err}
 use Rattle.pcp_model.specs.Disk.{CrashImage}
 use Rattle.pcp_outside.specs.Sides.{sink_side, source_side}
 use Rattle.logging_run.specs.declared.fault.RunFault.{RunFault}
+use Rattle.logging_run.specs.Closing.{Close, Ran}
 use Rattle.pm_words.specs.Sides.{IsUnread, Leaves}
 use Rattle.pm_pulling.specs.declared.stop.Stop.TheVariants.{Archive}
 use Rattle.pm_pulling.specs.Pulling.{Pulled, pull_side}
@@ -13,8 +14,10 @@ pub returns-in-Err : goal.returns-in-Err
 returns-in-Err g c =
     let p = pull_side (source_side g.I.Source c.args.reply.now c.args.reply.now) (sink_side g.L.Sink c.args.request.now c.args.request.now) g.D.Disk c.args.disk.now c.begin.new.disk in
     let e = c.in-Err.ensures in
-    let whole = unrecovered p c.args.asked.now c.in-Err.fault (nothing_said g.I.Source g.L.Sink g.D.Disk c.args.reply.now c.args.request.now c.args.disk.now, refl) e.unrecovered (λ none tells. e.unread tells none) e.cause in
-    subst (λ (f : RunFault). Pulled p c.args.asked.now (Err (Archive f))) (sym c.begin_fault.ensures) whole
+    let k = e.kinds in
+    let ran = λ (tells : p.disk.tells). subst (λ (x : RunFault). Ran p.disk c.args.asked.now.volume [] p.disk_was p.disk_is (Close.unrecovered x)) k.1 (e.unrecovered tells) in
+    let whole = unrecovered p c.args.asked.now k.0 (nothing_said g.I.Source g.L.Sink g.D.Disk c.args.reply.now c.args.request.now c.args.disk.now, refl) ran (λ none tells. e.unread tells none) (λ is. e.cause (k.1 ∙ is)) in
+    subst (λ (f : RunFault). Pulled p c.args.asked.now (Err (Archive f))) (sym k.1) whole
 
 pub returns-in-Ok-finish : goal.returns-in-Ok-finish
 returns-in-Ok-finish g c =

@@ -3,7 +3,9 @@ use Rattle.std.proofs.Common.{[], refl, sym, ◌∙◌}
 use Rattle.pcp_model.specs.Disk.{CrashImage}
 use Rattle.logger_core.proofs.Calls.{no_call}
 use Rattle.logging_run.specs.declared.fault.RunFault.TheVariants as faults
+use Rattle.archive_recovery.specs.declared.outcome.RecoverFault.TheVariants as recovery
 use Rattle.logging_run.specs.Closing.{Close, Ran}
+use Rattle.logging_run.specs.Recovering.{IsOfRecovery}
 use Rattle.logging_run.proofs.Finishing.{recovery_rose, unbegun, unrecovered_so}
 use Rattle.logging_run.proofs.Places.{found_unheld}
 use Rattle.logging_run.proofs.Standing.{begun_so, handed_on}
@@ -35,3 +37,9 @@ returns-in-Err-clause-unrecovered g c = λ tells.
 
 pub returns-in-Err-clause-cause : goal.returns-in-Err-clause-cause
 returns-in-Err-clause-cause g c = λ is. c.in-Err.ensures.cause (recovery_rose c.in-Err.fault (sym c.unrecovered.ensures ∙ is))
+
+pub returns-in_err-label-clause-kinds : goal.returns-in_err-label-clause-kinds
+returns-in_err-label-clause-kinds g c = handed_on c.from_residual.result faults.NoMemory IsOfRecovery c.from_residual.ensures.1 (recovery.NoMemory, refl)
+
+pub returns-in-Err-clause-kinds : goal.returns-in-Err-clause-kinds
+returns-in-Err-clause-kinds g c = (c.in-Err.fault, c.unrecovered.ensures)
