@@ -316,6 +316,48 @@ def try_last_replies(folder):
         assert child.wait(60) == 0
 
 
+def pulling(base, port, samples=1):
+    return start(base, "pull", str(port), str(samples), "1048576", "mmv.app.hits")
+
+
+def ended(child, seconds=60):
+    """The status of a program, and what it said."""
+    child.stdin.close()
+    return child.wait(seconds), child.stdout.read()
+
+
+def try_pulls(folder):
+    """A pull where nobody listens, one of the program's own server, and one of a server that ends behind its greeting."""
+    base, port = os.path.join(folder, "arch"), free_port()
+    assert ended(pulling(base, port)) == (17, b"connect fault\n") and not files(base)
+    child, end = serving(port, 1), time.monotonic() + 60
+    told = 17, b""
+    while told[0] == 17 and time.monotonic() < end:
+        told = ended(pulling(base, port, 2))
+    assert told == (0, b"logged 2\n"), told
+    assert child.wait(60) == 0 and child.stdout.read() == b"served 1\n" and items(base) == 2
+    with socket.create_server(("127.0.0.1", 0)) as listener:
+        child = pulling(base, listener.getsockname()[1])
+        client, _ = listener.accept()
+        client.sendall(struct.pack(">IIII", 16, 0x7000, 0, 0))
+        client.shutdown(socket.SHUT_WR)
+        heard(client)
+        told = ended(child)
+        assert told == (16, b"peer 1 ended 0\n") and items(base) == 2, told
+
+
+def try_begun_replies(folder):
+    """A server that falls silent inside a reply is given up after 5 seconds."""
+    with socket.create_server(("127.0.0.1", 0)) as listener:
+        child = pulling(os.path.join(folder, "arch"), listener.getsockname()[1])
+        client, _ = listener.accept()
+        began = time.monotonic()
+        client.sendall(struct.pack(">IIII", 16, 0x7000, 0, 0)[:7])
+        told, took = ended(child), time.monotonic() - began
+        assert told == (3, b"read fault\n") and 4.5 < took < 30, (told, took)
+        client.close()
+
+
 def on_terminal(words, given, folder, seconds, stopped=False):
     """Runs the program with a terminal as standard error, which may be stopped: its status, and what the terminal showed."""
     ours, theirs = pty.openpty()

@@ -1,14 +1,16 @@
 #!/usr/bin/env python3
 """Measures a pull of the program over loopback: how long it takes beside its pauses, and its memory.
 
-usage: pulling.py PROGRAM [SAMPLES]                SAMPLES: 5 unless given
+usage: pulling.py PROGRAM [SAMPLES [MANY]]         SAMPLES: 5 unless given, of a run with pauses; MANY: 2,000, of one without
 
 The program sleeps a second between two samples, so samples a second say nothing. A peer of this script's own answers at once, and times the
 program by what it asks: from the greeting to the first fetch, and from one result to the next fetch beside the pause, in which the sample is
-logged and made sure. Then the program serves 1,024 metrics itself, and another one pulls 64 of them; its peak of memory is told.
+logged and made sure. Then the program serves 1,024 metrics itself, and another one pulls some of them; its peak of memory is told. Where there is
+a C compiler the pauses are left out: a library that is loaded before the program answers each sleep at once, which gives samples a second.
 Nothing here is a promise: another machine gives other figures.
 """
 import os
+import shutil
 import socket
 import struct
 import subprocess
@@ -18,6 +20,7 @@ import threading
 import time
 
 NULL = 0xFFFFFFFF
+AT_ONCE = "#include <time.h>\nint clock_nanosleep(clockid_t a, int b, const struct timespec *c, struct timespec *d) { return 0; }\n"
 DOMAIN = 0x11800401
 PLACE = "/dev/shm" if os.path.isdir("/dev/shm") else None
 
@@ -90,9 +93,9 @@ def peak_of(child):
     return child.returncode, peak / 1024
 
 
-def pull(program, folder, base, port, samples, names):
+def pull(program, folder, base, port, samples, names, **how):
     return subprocess.Popen([program, base, "pull", str(port), str(samples), "1073741824", *names], cwd=folder,
-                            stdin=subprocess.DEVNULL, stdout=subprocess.PIPE, stderr=subprocess.DEVNULL)
+                            stdin=subprocess.DEVNULL, stdout=subprocess.PIPE, stderr=subprocess.DEVNULL, **how)
 
 
 def timed(program, folder, samples, metrics, instances):
@@ -117,8 +120,8 @@ def free_port():
         return it.getsockname()[1]
 
 
-def served(program, folder, samples):
-    """Prints the peak of a pull of 64 metrics of a server that has 1,024."""
+def serving(program, folder):
+    """Starts the program as a server of one client, which has 1,024 metrics, and gives it with its port once it listens."""
     lines = ["image A", "mmv 1 5 0 0 1"] + [f"metric m{k} {k} u32 counter 00100000 - - -" for k in range(1024)]
     lines += [f"value {k} - {k}" for k in range(1024)] + ["end", "region app A 32768 1", "start"]
     with open(f"{folder}/script", "w", encoding="ascii") as out:
@@ -126,21 +129,43 @@ def served(program, folder, samples):
     port = free_port()
     with open(f"{folder}/script", "rb") as script:
         server = subprocess.Popen([program, "served", "serve", str(port), "1"], cwd=folder, stdin=script, stdout=subprocess.PIPE)
-    # until it listens, without a connection, which would be the one that is served
+    # (without a connection, which would be the one that is served)
     while server.poll() is None and f":{port:04X} 00000000:0000 0A" not in open("/proc/net/tcp", encoding="ascii").read():
         time.sleep(0.01)
-    child = pull(program, folder, "pulled", port, samples, [f"mmv.app.m{16 * k}" for k in range(64)])
+    return server, port
+
+
+def served(program, folder, samples, count, **how):
+    """Pulls so many of 1,024 metrics of the program's own server, and tells the time, the peak and how both ended."""
+    server, port = serving(program, folder)
+    names, began = [f"mmv.app.m{1024 // count * k}" for k in range(count)], time.perf_counter()
+    child = pull(program, folder, f"pulled{count}_{samples}", port, samples, names, **how)
     status, peak = peak_of(child)
+    took = time.perf_counter() - began
     told, all_served = child.stdout.read().decode().strip(), server.communicate()[0].decode().strip()
-    print(f"  64 metrics of a server that has 1,024: {peak:.1f} MiB  status {status}  {told}; the server: status {server.returncode}  {all_served}")
+    print(f"{count:4} metrics of a server that has 1,024: {samples} samples in {took:.2f} s, {samples / took:.0f} a second; {peak:.1f} MiB  "
+          f"status {status}  {told}; the server: status {server.returncode}  {all_served}", flush=True)
 
 
-def main(program, samples=5):
+def unpaused(program, folder, samples):
+    """The same without a pause."""
+    compiler = shutil.which("cc")
+    if not compiler:
+        print("no C compiler, so nothing without pauses")
+        return
+    library = f"{folder}/at_once.so"
+    subprocess.run([compiler, "-shared", "-fPIC", "-x", "c", "-", "-o", library], input=AT_ONCE, text=True, check=True)
+    for count in (1, 64):
+        served(program, folder, samples, count, env={**os.environ, "LD_PRELOAD": library})
+
+
+def main(program, samples=5, many=2000):
     program, samples = os.path.realpath(program), int(samples)
     with tempfile.TemporaryDirectory(dir=PLACE) as folder:
         for metrics, instances in ((1, 0), (64, 0), (1, 5000), (64, 60)):
             timed(program, folder, samples, metrics, instances)
-        served(program, folder, samples)
+        served(program, folder, samples, 64)
+        unpaused(program, folder, int(many))
 
 
 if __name__ == "__main__":
