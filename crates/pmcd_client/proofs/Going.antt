@@ -1,5 +1,5 @@
 -- Turns behind turns: what was taken and written joins.
-use Rattle.std.proofs.Common.{◌≡◌, ℕ, ◌+◌, ◌≤◌, List, [], ◌∷◌, ◌++◌, length, take, refl, sym, ap, ◌∙◌, subst, append_assoc, arith, length-append}
+use Rattle.std.proofs.Common.{◌≡◌, ℕ, ◌+◌, ◌≤◌, List, [], ◌∷◌, ◌++◌, length, take, refl, sym, ap, ◌∙◌, subst, append_assoc, arith, length-append, inl, inr}
 use Rattle.std.proofs.lemmas.List.{append-nil}
 use Rattle.pcp_outside.specs.Causes.{Rose, shown_count}
 use Rattle.pcp_outside.specs.Sides.{source_side, sink_side}
@@ -10,9 +10,9 @@ use Rattle.pmcd_client.specs.declared.faults.ReplyFault.{ReplyFault}
 use Rattle.pmcd_client.specs.declared.faults.ReplyFault.TheVariants as whys
 use Rattle.pmcd_client.specs.declared.faults.TalkFault.{TalkFault}
 use Rattle.pmcd_client.specs.declared.faults.TalkFault.TheVariants as faults
-use Rattle.pmcd_client.specs.Bytes.{Took, Wrote, WroteFront, WritesFor, NoneFails, turn_bytes, turns_bytes, IsMisfit, Passes, BreaksBy, EndsBy, Stops}
-use Rattle.pmcd_client.specs.Turns.{Turn}
-use Rattle.pmcd_client.proofs.Joins.{replies_on, answers_on, answers_more, answered_on, answered_more, turns_bytes-append}
+use Rattle.pmcd_client.specs.Bytes.{Took, Wrote, WroteFront, WritesFor, NoneFails, turn_bytes, turns_bytes, IsMisfit, IsPart, Passes, BreaksBy, EndsBy, Stops}
+use Rattle.pmcd_client.specs.Turns.{Turn, requests_of}
+use Rattle.pmcd_client.proofs.Joins.{replies_on, answers_on, answers_more, answered_on, answered_more, bytes-append}
 
 -- a count that goes on from where it stood
 pub count_on : (n m k total : ℕ) → m ≡ shown_count (n + k) → (j : ℕ) → total ≡ k + j → shown_count (m + j) ≡ shown_count (n + total)
@@ -36,7 +36,7 @@ module _ {I L : Type 0} (g : SourceGhosts I) (h : SinkGhosts L) (a b c : I) (x y
     taken = p.taken ++ q.taken;
     spelled = replies_on p.taken q.taken xs ys p.spelled q.spelled;
     took = took_on p.taken q.taken p.took q.took;
-    wrote = subst (λ (l : List ℕ). Wrote (sink_side h x z) l) (sym (turns_bytes-append ts us)) (wrote_on (turns_bytes ts) (turns_bytes us) p.wrote q.wrote);
+    wrote = subst (λ (l : List ℕ). Wrote (sink_side h x z) l) (sym (bytes-append turn_bytes ts us)) (wrote_on (turns_bytes ts) (turns_bytes us) p.wrote q.wrote);
     stand = stands_on p.stand q.stand;
   }
 
@@ -96,28 +96,28 @@ module _ {I L : Type 0} (g : SourceGhosts I) (h : SinkGhosts L) (a b c : I) (x y
     took = subst (λ (l : List ℕ). Took (source_side g a c) l) (sym (append_assoc p.taken q.taken q.more_taken)) (took_on p.taken (q.taken ++ q.more_taken) p.took q.took);
     wrote =
         let done = turns_bytes (take (length ys) us) in
-        let all : turns_bytes (take (length (xs ++ ys)) (ts ++ us)) ≡ turns_bytes ts ++ done = ap turns_bytes (answered_on ts us xs ys p.answered) ∙ turns_bytes-append ts (take (length ys) us) in
-        front_on done (turns_bytes ts) (turns_bytes (take (length (xs ++ ys)) (ts ++ us))) (WritesFor e q.rest) all p.wrote q.wrote;
+        let all : turns_bytes (take (length (xs ++ ys)) (ts ++ us)) ≡ turns_bytes ts ++ done = ap turns_bytes (answered_on ts us xs ys p.answered) ∙ bytes-append turn_bytes ts (take (length ys) us) in
+        front_on done (turns_bytes ts) (turns_bytes (take (length (xs ++ ys)) (ts ++ us))) (WritesFor q.more_taken e q.rest) all p.wrote q.wrote;
     ends = ends_on (n + length (xs ++ ys)) (m + length ys) q.more_taken q.rest e (count_on n m (length xs) (length (xs ++ ys)) count (length ys) (length-append xs ys)) p.stand q.ends;
   }
 
 -- what is written where nothing more was due, and memory was refused
-writes_none : (e : TalkFault) (turn : Turn) (more : List Turn) (front : List ℕ) → e ≡ faults.NoMemory → front ≡ [] → WritesFor e (turn ∷ more) front
-writes_none e turn more front is none =
-    subst (λ (f : TalkFault). WritesFor f (turn ∷ more) front) (sym is) (turn_bytes turn, ap (λ (l : List ℕ). l ++ turn_bytes turn) (sym none))
+writes_none : (took : List ℕ) (e : TalkFault) (turn : Turn) (more : List Turn) (front : List ℕ) → took ≡ [] → e ≡ faults.NoMemory → front ≡ [] → WritesFor took e (turn ∷ more) front
+writes_none took e turn more front t is none =
+    subst (λ (f : TalkFault). WritesFor took f (turn ∷ more) front) (sym is) (([], requests_of turn, refl, none), λ some. absurd (some t))
 
 module _ {I L : Type 0} (g : SourceGhosts I) (h : SinkGhosts L) (a b : I) (x y : L) where
-  writes_more : (n : ℕ) (took : List ℕ) (rest more : List Turn) (e : TalkFault) (front : List ℕ) → EndsBy (source_side g a b) (sink_side h x y) n took rest e → WritesFor e rest front → WritesFor e (rest ++ more) front
+  writes_more : (n : ℕ) (took : List ℕ) (rest more : List Turn) (e : TalkFault) (front : List ℕ) → EndsBy (source_side g a b) (sink_side h x y) n took rest e → WritesFor took e rest front → WritesFor took e (rest ++ more) front
   writes_more n took (turn ∷ rest) more faults.NoMemory front q w = w
   writes_more n took (turn ∷ rest) more faults.WriteFault front q w = w
   writes_more n took (turn ∷ rest) more faults.ReadFault front q w = w
   writes_more n took (turn ∷ rest) more (faults.Peer reply why) front q w = w
   writes_more n took [] [] e front q w = w
-  writes_more n took [] (turn ∷ more) e front q w = writes_none e turn more front q.1 w
+  writes_more n took [] (turn ∷ more) e front q w = writes_none took e turn more front q.0 q.1 w
 
   breaks_none : (n : ℕ) (took : List ℕ) (turn : Turn) (e : TalkFault) → took ≡ [] → e ≡ faults.NoMemory → NoneFails (source_side g a b) (sink_side h x y) → BreaksBy (source_side g a b) (sink_side h x y) n took turn e
   breaks_none n took turn e t is p =
-      subst (λ (f : TalkFault). BreaksBy (source_side g a b) (sink_side h x y) n took turn f) (sym is) (subst (λ (l : List ℕ). length l ≤ 65536) (sym t) (omega arith), p)
+      subst (λ (f : TalkFault). BreaksBy (source_side g a b) (sink_side h x y) n took turn f) (sym is) (subst (λ (l : List ℕ). IsPart l) (sym t) (inr (inl (inl (omega arith)))), p)
 
   ends_more : (n : ℕ) (took : List ℕ) (rest more : List Turn) (e : TalkFault) → EndsBy (source_side g a b) (sink_side h x y) n took rest e → EndsBy (source_side g a b) (sink_side h x y) n took (rest ++ more) e
   ends_more n took (turn ∷ rest) more e q = q

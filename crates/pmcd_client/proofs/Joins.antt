@@ -1,7 +1,8 @@
 -- Lists of turns and replies, one behind another.
 use Rattle.std.proofs.Common.{◌≡◌, ℕ, List, [], ◌∷◌, ◌++◌, length, take, refl, sym, ap, ◌∙◌, subst, append_assoc}
 use Rattle.pdu_codec.specs.declared.pdu.Pdu.{Pdu}
-use Rattle.pmcd_client.specs.Bytes.{AreReplies, turns_bytes, turn_bytes}
+use Rattle.pdu_codec.specs.Spelling.{all_bytes}
+use Rattle.pmcd_client.specs.Bytes.{AreReplies}
 use Rattle.pmcd_client.specs.Turns.{Turn, Answers}
 
 -- replies behind replies
@@ -32,7 +33,7 @@ answered_more ts rest more [] e = refl
 answered_more (t ∷ ts) rest more (x ∷ xs) h = ap (λ (l : List Turn). t ∷ l) (answered_more ts rest more xs h.1)
 answered_more [] rest more (x ∷ xs) h = absurd h
 
--- the bytes of turns behind turns
-pub turns_bytes-append : (ts us : List Turn) → turns_bytes (ts ++ us) ≡ turns_bytes ts ++ turns_bytes us
-turns_bytes-append [] us = refl
-turns_bytes-append (t ∷ ts) us = ap (λ (l : List ℕ). turn_bytes t ++ l) (turns_bytes-append ts us) ∙ sym (append_assoc (turn_bytes t) (turns_bytes ts) (turns_bytes us))
+-- the bytes of all, and then of further ones
+pub bytes-append : {X : Type 0} (bytes : X → List ℕ) (xs ys : List X) → all_bytes bytes (xs ++ ys) ≡ all_bytes bytes xs ++ all_bytes bytes ys
+bytes-append bytes [] ys = refl
+bytes-append bytes (x ∷ xs) ys = ap (λ (l : List ℕ). bytes x ++ l) (bytes-append bytes xs ys) ∙ sym (append_assoc (bytes x) (all_bytes bytes xs) (all_bytes bytes ys))

@@ -1,6 +1,7 @@
 -- A reply is read: its first word, and then the rest.
 use Rattle.std.proofs.Common.{◌≡◌, ℕ, ◌+◌, ◌<◌, ◌≤◌, List, [], ◌++◌, length, refl, sym, ap, ◌∙◌, subst, append_assoc, arith, length-append, ◌⊎◌, ⊎_elim, inl, inr, Bool, true, false, cond, nat_lt, Some, None}
 use Rattle.std.proofs.lemmas.Bool.{ltb-false}
+use Rattle.std.proofs.Math.Nat.{eq-or-lt_of_le}
 use Rattle.pcp_base.specs.Fields.{be_field}
 use Rattle.std.specs.Prelude.{Ok, Err, Result, MatchResult}
 use Rattle.std.specs.Int.{w32, from_be_bytes}
@@ -19,13 +20,17 @@ use Rattle.pmcd_client.specs.declared.faults.ReplyFault.{ReplyFault}
 use Rattle.pmcd_client.specs.declared.faults.ReplyFault.TheVariants as whys
 use Rattle.pmcd_client.specs.declared.faults.TalkFault.{TalkFault}
 use Rattle.pmcd_client.specs.declared.faults.TalkFault.TheVariants as faults
-use Rattle.pmcd_client.specs.Bytes.{Took, IsReply}
+use Rattle.pmcd_client.specs.Bytes.{Took, IsPart, IsReply}
 use Rattle.pmcd_client.specs.Pieces.{Fills, FillsNot, Receives, IsUndecoded, unread_by, IsUnfit, Awaits}
 use Rattle.pmcd_client.specs.Turns.{Turn, Fits}
 
 -- the first word of more bytes
 word_on : (w more : List ℕ) → 4 ≤ length w → length_word (w ++ more) ≡ length_word w
 word_on w more long = ap (from_be_bytes w32) (take-append-le 4 w more long)
+
+-- no more than a length word
+word_part : (part : List ℕ) → length part ≤ 4 → IsPart part
+word_part part few = inr (⊎_elim (λ (all : length part ≡ 4). inr all) (λ (short : length part < 4). inl (inl short)) (eq-or-lt_of_le few))
 
 -- the first word was read: four bytes
 pub record HasWord {I : Type 0} (g : SourceGhosts I) (a b : I) (w : List ℕ) : Type 0 where
@@ -43,7 +48,7 @@ module _ {I : Type 0} (g : SourceGhosts I) (a b : I) (n : ℕ) where
 
   -- it wasn't read
   pub unread_first : (w : List ℕ) (e : TalkFault) → FillsNot (source_side g a b) 4 [] w e → Receives (source_side g a b) n (Err e)
-  unread_first w faults.NoMemory f = (f.0, f.1, (let few = f.2 in omega arith), f.3)
+  unread_first w faults.NoMemory f = (f.0, f.1, word_part f.0 (let few = f.2 in omega arith), f.3)
   unread_first w faults.ReadFault f = (w, subst (λ (l : List ℕ). Took (source_side g a b) l) (sym f.2) f.1, inl f.3, f.4)
   unread_first w faults.WriteFault f = absurd f
   unread_first w (faults.Peer reply why) f = absurd f
@@ -66,12 +71,21 @@ module _ {I : Type 0} (g : SourceGhosts I) (a b c : I) (n : ℕ) (w bytes : List
   begun : (part : List ℕ) → bytes ≡ w ++ part → length bytes < goal → IsBegun bytes
   begun part is short = let s = word_says part is in inr (omega arith, omega arith, omega arith)
 
+  -- no more than the PDU that the word begins
+  rest_part : (part : List ℕ) → length w + length part ≤ goal → IsPart (w ++ part)
+  rest_part part few =
+      let s : length_word (w ++ part) ≡ goal = word_on w part long ∙ says in
+      let l : length (w ++ part) ≡ length w + length part = length-append w part in
+      let within : length (w ++ part) ≤ goal = omega arith in
+      ⊎_elim (λ (all : length (w ++ part) ≡ goal). inl (record { least = omega arith; most = omega arith; says = s ∙ sym all }))
+      (λ (short : length (w ++ part) < goal). inr (inl (inr (omega arith, omega arith, omega arith)))) (eq-or-lt_of_le within)
+
   -- the rest wasn't read
   pub unread_rest : (e : TalkFault) → FillsNot (source_side g b c) goal w bytes e → Receives (source_side g a c) n (Err e)
   unread_rest faults.NoMemory f = (
     w ++ f.0,
     (λ tells. h.took tells ∙ ap (λ (l : List ℕ). w ++ l) (f.1 tells) ∙ sym (append_assoc w f.0 (g.left c))),
-    (let few = f.2 in let l : length (w ++ f.0) ≡ length w + length f.0 = length-append w f.0 in omega arith),
+    rest_part f.0 f.2,
     f.3 ∙ h.stands,
   )
   unread_rest faults.ReadFault f = (
@@ -97,7 +111,7 @@ module _ {I : Type 0} (g : SourceGhosts I) (a b c : I) (n : ℕ) (w bytes : List
 
   -- or bytes that are none
   pub undecoded : (e : TalkFault) → Fills (source_side g b c) goal w bytes → goal ≤ length bytes → IsUndecoded bytes n e → Receives (source_side g a c) n (Err e)
-  undecoded faults.NoMemory f all u = (bytes, took_both f.0 f.1 f.2, (let few = f.3 in omega arith), f.5 ∙ h.stands)
+  undecoded faults.NoMemory f all u = (bytes, took_both f.0 f.1 f.2, inl (whole f.0 f.2 (let few = f.3 in omega arith)), f.5 ∙ h.stands)
   undecoded (faults.Peer reply whys.Decode) f all u = (bytes, took_both f.0 f.1 f.2, (whole f.0 f.2 (let few = f.3 in omega arith), u.2), u.0, f.5 ∙ h.stands)
   undecoded (faults.Peer reply (whys.Ended k)) f all u = absurd (let same : whys.Ended k ≡ whys.Decode = u.1 in cc)
   undecoded (faults.Peer reply (whys.Length k)) f all u = absurd (let same : whys.Length k ≡ whys.Decode = u.1 in cc)

@@ -8,9 +8,9 @@ use Rattle.pcp_model.specs.Payload.{filling}
 use Rattle.pdu_codec.specs.declared.pdu.Pdu.{Pdu}
 use Rattle.pdu_codec.specs.Spelling.{all_lengths, text_length}
 use Rattle.pmcd_client.specs.declared.faults.TalkFault.{TalkFault}
-use Rattle.pmcd_client.specs.Bytes.{WroteFront, IsFront, turn_bytes, Passes, Stops}
+use Rattle.pmcd_client.specs.Bytes.{WroteFront, IsFront, Passes, Stops}
 use Rattle.pmcd_client.specs.Pieces.{Awaits, Sends}
-use Rattle.pmcd_client.specs.Turns.{Turn}
+use Rattle.pmcd_client.specs.Turns.{Turn, requests_of}
 use Rattle.pmcd_client.proofs.One.{passes_one, stops_sent}
 
 -- the first bytes of a piece are a front of it
@@ -18,7 +18,7 @@ pub front_of_piece : (o : SinkSide) (bytes piece : List ℕ) → piece ≡ bytes
 front_of_piece o bytes piece is put = λ tells. (take (put tells).0 piece, (put tells).1, (drop (put tells).0 piece, sym is ∙ sym (take-append-drop (put tells).0 piece)))
 
 -- the requests were written, and so it went
-pub asked_so : (i : SourceSide) (o : SinkSide) (n : ℕ) (turn : Turn) (r : Result Pdu TalkFault) → n ≤ 18446744073709551615 → Sends o (turn_bytes turn) → Awaits i n turn r
+pub asked_so : (i : SourceSide) (o : SinkSide) (n : ℕ) (turn : Turn) (r : Result Pdu TalkFault) → n ≤ 18446744073709551615 → Sends o (requests_of turn) → Awaits i n turn r
     → MatchResult r (λ pdu. Passes i o (turn ∷ []) (pdu ∷ [])) (λ e. Stops i o (turn ∷ []) n [] e)
 asked_so i o n turn (Ok pdu) few s w = passes_one i o n turn pdu s w
 asked_so i o n turn (Err e) few s w = stops_sent i o n turn e few s w

@@ -1,5 +1,5 @@
 -- What is taken and written for the turns of a dialogue, and how it breaks off.
-use Rattle.std.specs.Prelude.{◌≡◌, ◌≢◌, ℕ, ◌+◌, ◌≤◌, List, [], ◌∷◌, ◌++◌, take, length}
+use Rattle.std.specs.Prelude.{◌≡◌, ◌≢◌, ◌⊎◌, ℕ, ◌+◌, ◌≤◌, List, [], ◌∷◌, ◌++◌, take, length}
 use Rattle.pcp_outside.specs.Causes.{Rose, shown_count}
 use Rattle.pcp_outside.specs.Sides.{SourceSide, SinkSide}
 use Rattle.pdu_codec.specs.declared.pdu.Pdu.{Pdu}
@@ -91,19 +91,27 @@ IsFront front all = (rest : List ℕ) × (all ≡ front ++ rest)
 abbrev pub WroteFront : SinkSide → List ℕ → (List ℕ → Type 0) → Type 0
 WroteFront o bytes IsIt = o.tells → (front : List ℕ) × (o.after ≡ o.written ++ (bytes ++ front)) × IsIt front
 
--- What was written for the turns that are left: all requests of the next one, or a front of them where the sink failed or
--- memory was refused. Nothing was taken before they were written.
-abbrev pub WritesFor : TalkFault → List Turn → List ℕ → Type 0
-WritesFor e [] front = front ≡ []
-WritesFor faults.NoMemory (turn ∷ later) front = IsFront front (turn_bytes turn)
-WritesFor faults.WriteFault (turn ∷ later) front = IsFront front (turn_bytes turn)
-WritesFor faults.ReadFault (turn ∷ later) front = front ≡ turn_bytes turn
-WritesFor (faults.Peer reply why) (turn ∷ later) front = front ≡ turn_bytes turn
+-- whole requests, the first ones of these
+abbrev pub AreFirst : List Pdu → List ℕ → Type 0
+AreFirst requests front = (some more : List Pdu) × (requests ≡ some ++ more) × (front ≡ all_bytes pdu_bytes some)
 
--- Why a turn wasn't taken, by what was taken of its reply; `number` replies came before. Where memory was refused it was no
--- more than one PDU.
+-- What was written for the turns that are left: all requests of the next one, a front of them where the sink failed, or the
+-- first ones whole where memory was refused. Nothing of the reply was taken before all were written.
+abbrev pub WritesFor : List ℕ → TalkFault → List Turn → List ℕ → Type 0
+WritesFor took e [] front = front ≡ []
+WritesFor took faults.NoMemory (turn ∷ later) front = AreFirst (requests_of turn) front × (took ≢ [] → front ≡ turn_bytes turn)
+WritesFor took faults.WriteFault (turn ∷ later) front = IsFront front (turn_bytes turn)
+WritesFor took faults.ReadFault (turn ∷ later) front = front ≡ turn_bytes turn
+WritesFor took (faults.Peer reply why) (turn ∷ later) front = front ≡ turn_bytes turn
+
+-- a whole PDU, or one that is begun (which may be nothing), or a length word
+abbrev pub IsPart : List ℕ → Type 0
+IsPart bytes = IsWhole bytes ⊎ (IsBegun bytes ⊎ (length bytes ≡ 4))
+
+-- Why a turn wasn't taken, by what was taken of its reply; `number` replies came before. Where memory was refused nothing
+-- behind the reply was taken.
 abbrev pub BreaksBy : SourceSide → SinkSide → ℕ → List ℕ → Turn → TalkFault → Type 0
-BreaksBy i o number took turn faults.NoMemory = (length took ≤ 65536) × NoneFails i o
+BreaksBy i o number took turn faults.NoMemory = IsPart took × NoneFails i o
 BreaksBy i o number took turn faults.ReadFault = IsBegun took × SourceFails i o
 BreaksBy i o number took turn faults.WriteFault = (took ≡ []) × SinkFails i o
 BreaksBy i o number took turn (faults.Peer reply why) = IsMisfit i turn took why × (reply ≡ shown_count number) × NoneFails i o
@@ -122,5 +130,5 @@ pub record Stops (i : SourceSide) (o : SinkSide) (turns : List Turn) (before : �
   -- behind those replies
   pub more_taken : List ℕ
   pub took : Took i (taken ++ more_taken)
-  pub wrote : WroteFront o (turns_bytes (take (length replies) turns)) (WritesFor e rest)
+  pub wrote : WroteFront o (turns_bytes (take (length replies) turns)) (WritesFor more_taken e rest)
   pub ends : EndsBy i o (before + length replies) more_taken rest e

@@ -8,6 +8,7 @@ use Rattle.pdu_codec.specs.declared.types.PduType.TheVariants as types
 use Rattle.pdu_codec.specs.declared.fault.PduFault.{PduFault}
 use Rattle.pdu_codec.specs.declared.fault.PduFault.TheVariants as pdu_faults
 use Rattle.pdu_codec.specs.Bodies.{IsPdu}
+use Rattle.pdu_codec.specs.Spelling.{all_bytes, pdu_bytes}
 use Rattle.pdu_codec.specs.Types.{type_of}
 use Rattle.pdu_stream.specs.Streams.{IsBegun, IsBad}
 use Rattle.pdu_stream.specs.Streams.{IsPdu as IsWhole}
@@ -15,7 +16,7 @@ use Rattle.pmcd_client.specs.declared.faults.ReplyFault.{ReplyFault}
 use Rattle.pmcd_client.specs.declared.faults.ReplyFault.TheVariants as whys
 use Rattle.pmcd_client.specs.declared.faults.TalkFault.{TalkFault}
 use Rattle.pmcd_client.specs.declared.faults.TalkFault.TheVariants as faults
-use Rattle.pmcd_client.specs.Bytes.{Took, Wrote, WroteFront, IsFront, IsReply, IsMisfit}
+use Rattle.pmcd_client.specs.Bytes.{Took, Wrote, WroteFront, AreFirst, IsFront, IsPart, IsReply, IsMisfit}
 use Rattle.pmcd_client.specs.Replies.{Listed}
 use Rattle.pmcd_client.specs.Turns.{Turn, Fits, type_due}
 
@@ -55,7 +56,7 @@ IsUndecoded bytes number e = ⊥
 -- one PDU was received, and nothing behind it was taken; `number` replies came before
 abbrev pub Receives : SourceSide → ℕ → Result Pdu TalkFault → Type 0
 Receives i number (Ok reply) = (taken : List ℕ) × Took i taken × IsReply taken reply × Stands i
-Receives i number (Err faults.NoMemory) = (taken : List ℕ) × Took i taken × (length taken ≤ 65536) × Stands i
+Receives i number (Err faults.NoMemory) = (taken : List ℕ) × Took i taken × IsPart taken × Stands i
 Receives i number (Err faults.ReadFault) = (taken : List ℕ) × Took i taken × IsBegun taken × Fails i
 Receives i number (Err faults.WriteFault) = ⊥
 Receives i number (Err (faults.Peer reply why)) = (taken : List ℕ) × Took i taken × IsUnread i taken why × (reply ≡ number) × Stands i
@@ -81,20 +82,21 @@ IsJudged turn reply (Some why) = IsUnfit turn reply why
 -- the reply to a turn was received and fits
 abbrev pub Awaits : SourceSide → ℕ → Turn → Result Pdu TalkFault → Type 0
 Awaits i number turn (Ok reply) = (taken : List ℕ) × Took i taken × IsReply taken reply × Fits turn reply × Stands i
-Awaits i number turn (Err faults.NoMemory) = (taken : List ℕ) × Took i taken × (length taken ≤ 65536) × Stands i
+Awaits i number turn (Err faults.NoMemory) = (taken : List ℕ) × Took i taken × IsPart taken × Stands i
 Awaits i number turn (Err faults.ReadFault) = (taken : List ℕ) × Took i taken × IsBegun taken × Fails i
 Awaits i number turn (Err faults.WriteFault) = ⊥
 Awaits i number turn (Err (faults.Peer reply why)) = (taken : List ℕ) × Took i taken × IsMisfit i turn taken why × (reply ≡ number) × Stands i
 
--- requests were written, or a front of them
-pub record Sends (o : SinkSide) (bytes : List ℕ) : Type 0 where
-  pub wrote : Wrote o bytes
+-- requests were written
+pub record Sends (o : SinkSide) (requests : List Pdu) : Type 0 where
+  pub wrote : Wrote o (all_bytes pdu_bytes requests)
   pub stands : o.faults_after ≡ o.faults
 
-abbrev pub SendsNot : SinkSide → List ℕ → TalkFault → Type 0
-SendsNot o bytes faults.NoMemory = WroteFront o [] (λ front. IsFront front bytes) × (o.faults_after ≡ o.faults)
-SendsNot o bytes faults.WriteFault = WroteFront o [] (λ front. IsFront front bytes) × Rose o.faults o.faults_after × (o.faults ≤ o.faults_after)
-SendsNot o bytes e = ⊥
+-- or the first ones of them where memory was refused, or a front where the sink failed
+abbrev pub SendsNot : SinkSide → List Pdu → TalkFault → Type 0
+SendsNot o requests faults.NoMemory = WroteFront o [] (AreFirst requests) × (o.faults_after ≡ o.faults)
+SendsNot o requests faults.WriteFault = WroteFront o [] (λ front. IsFront front (all_bytes pdu_bytes requests)) × Rose o.faults o.faults_after × (o.faults ≤ o.faults_after)
+SendsNot o requests e = ⊥
 
 -- the list of a domain as a reply
 abbrev pub list_reply : Listed → Pdu

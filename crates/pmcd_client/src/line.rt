@@ -1,11 +1,12 @@
 //! The line to a pmcd: requests go out, and the reply to each comes in.
-ghost use Rattle.std.specs.Prelude.{◌≡◌, ◌+◌, ◌≤◌, ◌∷◌, ◌++◌, [], OnOk, MatchResult, Some};
+ghost use Rattle.std.specs.Prelude.{◌≡◌, ◌+◌, ◌≤◌, ◌∷◌, [], OnOk, MatchResult, Some};
 ghost use Rattle.pcp_outside.specs.Causes.{shown_count};
 ghost use Rattle.pcp_outside.specs.Sides.{source_side, sink_side};
 ghost use Rattle.pdu_codec.specs.declared.pdu.Pdu.TheVariants as pdus;
-ghost use Rattle.pdu_codec.specs.Spelling.{IsWritable, pdu_bytes, pdu_length};
-ghost use Rattle.pmcd_client.specs.Bytes.{Passes, Stops, turn_bytes};
+ghost use Rattle.pdu_codec.specs.Spelling.{IsWritable, pdu_length};
+ghost use Rattle.pmcd_client.specs.Bytes.{Passes, Stops};
 ghost use Rattle.pmcd_client.specs.Pieces.{Awaits, Sends, SendsNot};
+ghost use Rattle.pmcd_client.specs.Turns.{requests_of};
 
 use crate::faults::TalkFault;
 use crate::judging::judge;
@@ -26,7 +27,7 @@ pub struct Line {
 fn send<L: Sink>(alloc: Global, out: &mut L, request: &Pdu) -> Result<(), TalkFault>
     requires fits { IsWritable request.now }
     requires room { pdu_length request.now ≤ 65536 }
-    ensures { MatchResult result (λ _. Sends (sink_side L.Sink out.old out.new) (pdu_bytes request.now)) (SendsNot (sink_side L.Sink out.old out.new) (pdu_bytes request.now)) }
+    ensures { MatchResult result (λ _. Sends (sink_side L.Sink out.old out.new) (request.now ∷ [])) (SendsNot (sink_side L.Sink out.old out.new) (request.now ∷ [])) }
 {
     let bytes = encode(alloc, request)?;
     match write_all(out, bytes.as_slice()) {
@@ -39,7 +40,7 @@ fn send<L: Sink>(alloc: Global, out: &mut L, request: &Pdu) -> Result<(), TalkFa
 fn introduce<L: Sink>(alloc: Global, out: &mut L, asked: &Pdu) -> Result<(), TalkFault>
     requires fits { IsWritable asked.now }
     requires room { pdu_length asked.now ≤ 65536 }
-    ensures { MatchResult result (λ _. Sends (sink_side L.Sink out.old out.new) (pdu_bytes pdus.Creds ++ (pdu_bytes asked.now ++ []))) (SendsNot (sink_side L.Sink out.old out.new) (pdu_bytes pdus.Creds ++ (pdu_bytes asked.now ++ []))) }
+    ensures { MatchResult result (λ _. Sends (sink_side L.Sink out.old out.new) (pdus.Creds ∷ asked.now ∷ [])) (SendsNot (sink_side L.Sink out.old out.new) (pdus.Creds ∷ asked.now ∷ [])) }
 {
     match send(alloc, out, &Pdu::Creds) {
         Ok(()) => send(alloc, out, asked),
@@ -51,7 +52,7 @@ fn introduce<L: Sink>(alloc: Global, out: &mut L, asked: &Pdu) -> Result<(), Tal
 fn send_requests<L: Sink>(alloc: Global, out: &mut L, asked: &Pdu) -> Result<(), TalkFault>
     requires fits { IsWritable asked.now }
     requires room { pdu_length asked.now ≤ 65536 }
-    ensures { MatchResult result (λ _. Sends (sink_side L.Sink out.old out.new) (turn_bytes (Some asked.now))) (SendsNot (sink_side L.Sink out.old out.new) (turn_bytes (Some asked.now))) }
+    ensures { MatchResult result (λ _. Sends (sink_side L.Sink out.old out.new) (requests_of (Some asked.now))) (SendsNot (sink_side L.Sink out.old out.new) (requests_of (Some asked.now))) }
 {
     match asked {
         Pdu::PmnsNames { .. } => introduce(alloc, out, asked),
