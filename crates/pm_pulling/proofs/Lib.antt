@@ -1,4 +1,5 @@
 pub mod All
+pub mod Below
 pub mod Completes
 pub mod Courses
 pub mod Declined
@@ -6,7 +7,6 @@ pub mod Dialogues
 pub mod Endings
 pub mod Facts
 pub mod Kept
-pub mod Laws
 pub mod Samples
 pub mod Standing
 pub mod Whole

@@ -4,7 +4,7 @@ use Rattle.pcp_outside.specs.Sides.{sink_side, source_side}
 use Rattle.pm_pulling.specs.Ends.{call_side}
 use Rattle.pm_pulling.specs.Pulling.{pull_side}
 use Rattle.pm_pulling.proofs.All.{facts}
-use Rattle.pm_pulling.proofs.Laws.{items_are, loses, once, refuses_none, taken}
+use Rattle.pm_pulling.proofs.Below.{items_are, loses, once, refuses_none, taken}
 use Rattle.pm_pulling.proofs.top.pull.Goals as goal
 
 pub returns : goal.returns
