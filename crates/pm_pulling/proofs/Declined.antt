@@ -25,7 +25,7 @@ use Rattle.pm_pulling.specs.Ends.{CallSide, HasRun}
 use Rattle.pm_pulling.specs.Good.{IsUntakenSample, TakesEach, any_sink, source_of}
 use Rattle.pm_pulling.specs.Pulling.{Came, Pulled, Says, TurnsAway, all_sure, report_of}
 use Rattle.pm_pulling.specs.Stops.{away_status}
-use Rattle.pm_pulling.proofs.Completes.{EndsAway, EndsClear, EndsOpen, RefusesNone, open_end, order_of}
+use Rattle.pm_pulling.proofs.Completes.{EndsOpen, RefusesNone, open_end, order_of}
 use Rattle.pm_pulling.proofs.Dialogues.{front_broken, not_broken, one_front}
 use Rattle.pm_pulling.proofs.Endings.{Seen}
 use Rattle.pm_pulling.proofs.Standing.{broken_so, flushed_so, says_so}
