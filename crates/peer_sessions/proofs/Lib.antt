@@ -1,0 +1,13 @@
+pub mod Dialogues
+pub mod Ends
+pub mod Fetching
+pub mod Lengths
+pub mod Names
+pub mod Opening
+pub mod Results
+pub mod Sampling
+pub mod Served
+pub mod Shown
+pub mod Spelled
+pub mod Turns
+pub mod Whole
