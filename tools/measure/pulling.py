@@ -20,7 +20,7 @@ import threading
 import time
 
 NULL = 0xFFFFFFFF
-AT_ONCE = "#include <time.h>\nint clock_nanosleep(clockid_t a, int b, const struct timespec *c, struct timespec *d) { return 0; }\n"
+AT_ONCE = "#include <time.h>\nint nanosleep(const struct timespec *wanted, struct timespec *left) { return 0; }\n"
 DOMAIN = 0x11800401
 PLACE = "/dev/shm" if os.path.isdir("/dev/shm") else None
 
