@@ -1,0 +1,5 @@
+pub mod Enough
+pub mod Grown
+pub mod Held
+pub mod Lookups
+pub mod Steps

@@ -1,0 +1,17 @@
+//! The merge of two archives (pmlogextract(1)): the results of both by rising stamp, one for each stamp, with the sets of the first source and behind
+//! them those of the second, of a metric the first set alone; and what describes each, by what its source says. `specs/Merging` and `specs/Facts` say
+//! it whole.
+#![tactic(auto)]
+
+mod facts;
+mod fault;
+mod laws;
+mod lists;
+mod misfits;
+mod naming;
+mod sets;
+
+pub use facts::describe;
+pub use fault::MergeFault;
+pub use laws::{each_stamp_stands_once, facts_are_enough, sets_are_of_both};
+pub use sets::StampSets;
