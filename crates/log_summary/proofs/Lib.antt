@@ -1,0 +1,11 @@
+pub mod Counting
+pub mod Joining
+pub mod Lining
+pub mod Merging
+pub mod Naming
+pub mod Placing
+pub mod Rounds
+pub mod Tabled
+pub mod Telling
+pub mod Walked
+pub mod Whole

@@ -1,0 +1,10 @@
+pub mod Jobs
+pub mod Laws
+pub mod Lines
+pub mod Listed
+pub mod Numbers
+pub mod Summaries
+pub mod Tables
+pub mod Tallies
+pub mod Values
+pub mod Volumes

@@ -1,0 +1,18 @@
+//! What an archive's values come to between two stamps (pmlogsummary(1)): of each metric's instance that has numbers, how
+//! many, the least, the greatest and their sum. Volumes are summed by workers beside each other, and what they found is put
+//! together in the volumes' order, so the summary is that of the whole scan.
+#![tactic(auto)]
+
+mod jobs;
+mod laws;
+mod lines;
+mod numbers;
+mod summing;
+mod table;
+mod tally;
+mod walking;
+
+pub use laws::{tables_merge, tables_tell};
+pub use summing::summarize;
+pub use table::Table;
+pub use tally::Tally;

@@ -1,0 +1,132 @@
+//! The summary of an archive.
+ghost use Rattle.std.specs.Prelude.{◌≡◌, ◌+◌, ◌<◌, ◌≤◌, None, length, drop, vec_len, IfOk, IfErr, OnOk};
+ghost use Rattle.std.specs.List.{AllByRecursion};
+ghost use Rattle.pcp_model.specs.Disk.{contents_of};
+ghost use Rattle.pcp_outside.specs.Causes.{Rose};
+ghost use Rattle.archive_loading.specs.Loaded.{IsMeasured};
+ghost use Rattle.archive_loading.specs.Looks.{Looks};
+ghost use Rattle.archive_reader.specs.Values.{IsWholeFault};
+ghost use Rattle.archive_reader.specs.declared.fault.ReaderFault.TheVariants.{DiskFault};
+ghost use Rattle.log_summary.specs.Summaries.{IsSoFar, IsTableOf, IsSummary, IsSummaryFault};
+
+use crate::jobs::{Job, count_jobs, merge_all, next_jobs};
+use crate::table::Table;
+use archive_meta::MetaState;
+use archive_reader::{ArchiveReader, ReaderFault};
+use pcp_base::{Bytes, Stamp};
+use pcp_outside::{Disk, Turn};
+use std::alloc::Global;
+use std::thread::Threads;
+
+// The position behind so many jobs.
+fn behind(index: usize, jobs: &Vec<Job>) -> usize
+    requires { index + vec_len jobs.now < 18446744073709551616 }
+    ensures { result ≡ index + vec_len jobs.now }
+{
+    index + jobs.len()
+}
+
+/// Counts the next volumes, from a position on, one by each worker. Answers the position behind them.
+fn sum_some<D: Disk, T: Turn + Sync, R: Threads + Sync>(
+    rt: &R,
+    alloc: Global,
+    workers: u32,
+    meta: &MetaState,
+    from: Stamp,
+    to: Stamp,
+    disk: &mut D,
+    volumes: &[(u32, u64)],
+    index: usize,
+    total: &mut Table,
+    turn: &T,
+) -> Result<usize, ReaderFault>
+    requires within { index < length volumes.now }
+    requires some { 0 < workers }
+    requires lengths { D.tells → AllByRecursion (IsMeasured (contents_of (D.held disk.old))) volumes.now }
+    ensures within { IfOk result (λ next. (index < next) × (next ≤ length volumes.now)) }
+    ensures summed { D.tells → IfOk result (λ next. IsSoFar (contents_of (D.held disk.old)) volumes.now meta.now from to (drop index volumes.now) total.old
+        → IsSoFar (contents_of (D.held disk.old)) volumes.now meta.now from to (drop next volumes.now) total.new) }
+    ensures fault { D.tells → IfErr result (λ e. IsSoFar (contents_of (D.held disk.old)) volumes.now meta.now from to (drop index volumes.now) total.old
+        → IsWholeFault (contents_of (D.held disk.old)) volumes.now e) }
+    ensures looks { Looks D.Disk disk.old disk.new }
+    ensures cause { IfErr result (λ e. e ≡ DiskFault → Rose (D.faults disk.old) (D.faults disk.new)) }
+    ensures quiet { OnOk result (D.faults disk.new ≡ D.faults disk.old) }
+{
+    let jobs = next_jobs(alloc, disk, volumes, index, workers)?;
+    let next = behind(index, &jobs);
+    let counts = count_jobs(rt, alloc, meta, from, to, jobs, turn)?;
+    match merge_all(total, counts) {
+        Ok(()) => Ok(next),
+        Err(fault) => Err(fault),
+    }
+}
+
+/// What the items of all volumes come to between two moments.
+fn sum_volumes<D: Disk, T: Turn + Sync, R: Threads + Sync>(
+    rt: &R,
+    alloc: Global,
+    workers: u32,
+    meta: &MetaState,
+    from: Stamp,
+    to: Stamp,
+    disk: &mut D,
+    volumes: &[(u32, u64)],
+    turn: &T,
+) -> Result<Table, ReaderFault>
+    requires some { 0 < workers }
+    requires lengths { D.tells → AllByRecursion (IsMeasured (contents_of (D.held disk.old))) volumes.now }
+    ensures summed { D.tells → IfOk result (IsTableOf (contents_of (D.held disk.old)) volumes.now meta.now from to) }
+    ensures fault { D.tells → IfErr result (IsWholeFault (contents_of (D.held disk.old)) volumes.now) }
+    ensures looks { Looks D.Disk disk.old disk.new }
+    ensures cause { IfErr result (λ e. e ≡ DiskFault → Rose (D.faults disk.old) (D.faults disk.new)) }
+    ensures quiet { OnOk result (D.faults disk.new ≡ D.faults disk.old) }
+{
+    let mut total = Table::empty(alloc);
+    let mut index = 0;
+    while index < volumes.len() {
+        index = sum_some(
+            rt, alloc, workers, meta, from, to, disk, volumes, index, &mut total, turn,
+        )?;
+    }
+    Ok(total)
+}
+
+/// The summary of the items of an archive that are stamped neither before the first moment nor after the second: a line for
+/// each metric's instance that has numbers, whatever the number of workers, which is at least 1. Volumes are read in their
+/// order, as many at a time as there are workers, and then counted by the workers beside each other: each calls `turn` with
+/// its number from 0 and the volume's before it counts. The disk is left as it was. `Compressed` and `NotArchive` name the
+/// first place that is wrong, as `ArchiveReader::load` does, or the first record of a volume that is no item's.
+pub fn summarize<D: Disk, T: Turn + Sync, R: Threads + Sync>(
+    rt: &R,
+    alloc: Global,
+    workers: u32,
+    from: Stamp,
+    to: Stamp,
+    disk: &mut D,
+    turn: &T,
+) -> Result<Bytes, ReaderFault>
+    requires { 0 < workers }
+    ensures summary { D.tells → IfOk result (IsSummary (contents_of (D.held disk.old)) from to) }
+    ensures unwrapped { D.tells → OnOk result (D.wrapped_file disk.old ≡ None) }
+    ensures fault { D.tells → IfErr result (IsSummaryFault (D.wrapped_file disk.old) (contents_of (D.held disk.old))) }
+    ensures looks { Looks D.Disk disk.old disk.new }
+    ensures cause { IfErr result (λ e. e ≡ DiskFault → Rose (D.faults disk.old) (D.faults disk.new)) }
+    ensures quiet { OnOk result (D.faults disk.new ≡ D.faults disk.old) }
+{
+    let reader = ArchiveReader::load(alloc, disk)?;
+    let table = sum_volumes(
+        rt,
+        alloc,
+        workers,
+        reader.meta(),
+        from,
+        to,
+        disk,
+        reader.volumes(),
+        turn,
+    )?;
+    match table.text(alloc, reader.meta()) {
+        Ok(text) => Ok(text),
+        Err(_) => Err(ReaderFault::NoMemory),
+    }
+}

@@ -1,0 +1,164 @@
+//! Counts by metric and instance.
+ghost use Rattle.std.specs.Prelude.{◌≡◌, [], ◌∷◌, fold, OnOk};
+ghost use Rattle.std.specs.Option.{option_copied};
+ghost use Rattle.archive_meta.specs.Said.{description_of, desc_of};
+ghost use Rattle.log_summary.specs.Tables.{joined_to, put, merged, counted};
+ghost use Rattle.log_summary.specs.Values.{with_value, word_values, block_values, body_values, code_in, set_values, sets_values, item_values};
+
+use crate::numbers::{block_number, word_number};
+use crate::tally::Tally;
+use archive_meta::MetaState;
+use indexmap::IndexMap;
+use pcp_base::{Block, Body, Item, NoMemory, Pmid, Stamp, ValueSet};
+use std::alloc::Global;
+use std::marker::Model;
+
+/// What was counted, by a metric's word and an instance's number, in the order in which they were first counted. Each look-up
+/// is by a hash, so a value's count takes no longer in a table of many.
+#[derive(Drop)]
+pub struct Table {
+    pub(crate) tallies: IndexMap<(u32, i32), Tally>,
+}
+
+impl Model for Table {
+    ghost use Rattle.log_summary.specs.Tables.{Rows};
+
+    ghost Value = { Rows };
+
+    ghost view = { λ t. t.tallies.entries };
+}
+
+// What was counted behind what there is.
+fn joined_to(before: Option<&Tally>, tally: Tally) -> Tally
+    ensures { result ≡ joined_to (option_copied before.entry) tally }
+{
+    match before {
+        Some(before) => before.joined(&tally),
+        None => tally,
+    }
+}
+
+// The type code of a metric's description.
+fn code_of(meta: &MetaState, pmid: Pmid) -> Option<u32>
+    ensures { result ≡ code_in (desc_of (description_of pmid meta.now)) }
+{
+    match meta.desc(pmid) {
+        Some(desc) => Some(desc.code),
+        None => None,
+    }
+}
+
+impl Table {
+    /// Nothing is counted.
+    pub fn empty(alloc: Global) -> Table
+        ensures { result ≡ [] }
+    {
+        Table {
+            tallies: IndexMap::new(alloc),
+        }
+    }
+
+    // Puts what was counted of one instance behind what the table has of it.
+    fn put(&mut self, key: (u32, i32), tally: Tally) -> Result<(), NoMemory>
+        ensures { OnOk result (self.new ≡ put self.old (key, tally)) }
+    {
+        let tally = joined_to(self.tallies.get(&key), tally);
+        self.tallies.insert(key, tally)?;
+        Ok(())
+    }
+
+    fn count_number(
+        &mut self,
+        pmid: Pmid,
+        stamp: Stamp,
+        instance: i32,
+        number: Option<i128>,
+    ) -> Result<(), NoMemory>
+        ensures { OnOk result (self.new ≡ fold counted self.old (with_value pmid stamp instance number [])) }
+    {
+        match number {
+            Some(number) => self.put((pmid.word(), instance), Tally::single(number, stamp)),
+            None => Ok(()),
+        }
+    }
+
+    #[tactic(auto, using(crate::proofs::Counting::number_more))]
+    fn count_words(
+        &mut self,
+        code: Option<u32>,
+        pmid: Pmid,
+        stamp: Stamp,
+        values: &[(i32, u32)],
+    ) -> Result<(), NoMemory>
+        ensures { OnOk result (self.new ≡ fold counted self.old (word_values code pmid stamp values.now)) }
+    {
+        for value in values {
+            self.count_number(pmid, stamp, value.0, word_number(code, value.1))?;
+        }
+        Ok(())
+    }
+
+    #[tactic(auto, using(crate::proofs::Counting::number_more))]
+    fn count_blocks(
+        &mut self,
+        code: Option<u32>,
+        pmid: Pmid,
+        stamp: Stamp,
+        values: &[(i32, Block)],
+    ) -> Result<(), NoMemory>
+        ensures { OnOk result (self.new ≡ fold counted self.old (block_values code pmid stamp values.now)) }
+    {
+        for value in values {
+            let number = block_number(code, value.1.bytes());
+            self.count_number(pmid, stamp, value.0, number)?;
+        }
+        Ok(())
+    }
+
+    fn count_set(&mut self, meta: &MetaState, stamp: Stamp, set: &ValueSet) -> Result<(), NoMemory>
+        ensures { OnOk result (self.new ≡ fold counted self.old (set_values meta.now stamp set.now)) }
+    {
+        let code = code_of(meta, set.pmid);
+        match &set.body {
+            Body::InPlace(values) => self.count_words(code, set.pmid, stamp, values.as_slice()),
+            Body::Blocks(values) => self.count_blocks(code, set.pmid, stamp, values.as_slice()),
+            Body::Status(_) => Ok(()),
+        }
+    }
+
+    #[tactic(auto, using(crate::proofs::Counting::values_more))]
+    fn count_sets(
+        &mut self,
+        meta: &MetaState,
+        stamp: Stamp,
+        sets: &[ValueSet],
+    ) -> Result<(), NoMemory>
+        ensures { OnOk result (self.new ≡ fold counted self.old (sets_values meta.now stamp sets.now)) }
+    {
+        for set in sets {
+            self.count_set(meta, stamp, set)?;
+        }
+        Ok(())
+    }
+
+    /// Counts the numbers of an item behind those counted. After a refusal some of them may be counted.
+    pub fn count(&mut self, meta: &MetaState, item: &Item) -> Result<(), NoMemory>
+        ensures { OnOk result (self.new ≡ fold counted self.old (item_values meta.now item.now)) }
+    {
+        match item {
+            Item::Sample(answer) => self.count_sets(meta, answer.stamp, answer.sets.as_slice()),
+            Item::Mark(_) => Ok(()),
+        }
+    }
+
+    /// Puts what another table counted behind what this one did. After a refusal some of it may be there.
+    pub fn merge(&mut self, other: Table) -> Result<(), NoMemory>
+        ensures { OnOk result (self.new ≡ merged self.old other) }
+    {
+        let Table { tallies } = other;
+        for (key, tally) in tallies {
+            self.put(key, tally)?;
+        }
+        Ok(())
+    }
+}
