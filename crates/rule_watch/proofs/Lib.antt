@@ -1,0 +1,10 @@
+pub mod Conditions
+pub mod InstanceWindows
+pub mod Minima
+pub mod Places
+pub mod Rows
+pub mod RuleLines
+pub mod Slots
+pub mod Sums
+pub mod Watching
+pub mod Windows

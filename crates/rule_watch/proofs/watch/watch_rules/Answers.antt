@@ -1,0 +1,28 @@
+-- The rule that is taken is the first of those that are left.
+use Rattle.std.proofs.Common.{◌≡◌, List, [], ◌∷◌, ◌++◌, map, reverse, append_assoc, sym, ap, ◌∙◌, subst}
+use Rattle.std.specs.List.{AllByRecursion, All}
+use Rattle.std.proofs.lemmas.List.{map-append, reverse-append}
+use Rattle.std.proofs.lemmas.List.Elements.{All-push}
+use Rattle.rule_watch.specs.declared.rule.Rule.{Rule}
+use Rattle.rule_watch.specs.declared.watched.WatchedRule.{WatchedRule}
+use Rattle.rule_watch.specs.Rules.{IsRule}
+use Rattle.rule_watch.specs.Watched.{IsFreshRule, rule_of}
+use Rattle.rule_watch.proofs.watch.watch_rules.Goals as goal
+
+pub loop-rule-preserved : goal.loop-rule-preserved
+loop-rule-preserved c =
+    let made : List WatchedRule = c.loop-rule.made.items in
+    let next : WatchedRule = c.in_ok-watch_rule.field-0 in
+    let rest : List Rule = reverse c.pop.new.self.items in
+    let front : reverse c.loop-rule.left.items ≡ c.in-Some.rule ∷ rest = ap reverse c.in-Some.ensures.items ∙ reverse-append c.pop.new.self.items (c.in-Some.rule ∷ []) in
+    let grown : c.push.new.self.items ≡ made ++ next ∷ [] = c.in_ok-push.ensures.items in
+    record {
+      rules = ap (λ (ms : List WatchedRule). map rule_of ms ++ rest) grown
+          ∙ ap (λ (rs : List Rule). rs ++ rest) (map-append rule_of made (next ∷ []))
+          ∙ append_assoc (map rule_of made) (rule_of next ∷ []) rest
+          ∙ ap (λ (r : Rule). map rule_of made ++ r ∷ rest) c.in_ok-watch_rule.ensures.rule
+          ∙ ap (λ (rs : List Rule). map rule_of made ++ rs) (sym front)
+          ∙ c.loop-rule.invariant.rules;
+      fresh = subst (All IsFreshRule) (sym grown) (All-push IsFreshRule made next c.loop-rule.invariant.fresh c.in_ok-watch_rule.ensures.fresh);
+      right = (let all : AllByRecursion IsRule (c.in-Some.rule ∷ rest) = subst (AllByRecursion IsRule) front c.loop-rule.invariant.right in all.1);
+    }

@@ -1,0 +1,12 @@
+pub mod Aggregates
+pub mod Faults
+pub mod Holding
+pub mod Lines
+pub mod Queues
+pub mod Reading
+pub mod Rows
+pub mod Rules
+pub mod Running
+pub mod Shown
+pub mod Watched
+pub mod Windows
