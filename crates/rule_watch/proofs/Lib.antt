@@ -1,9 +1,17 @@
 pub mod Conditions
 pub mod InstanceWindows
+pub mod Labels
 pub mod Minima
 pub mod Places
+pub mod Pushes
 pub mod Rows
 pub mod RuleLines
+pub mod RuleNames
+pub mod RuleSteps
+pub mod RuleTexts
+pub mod RulesRead
+pub mod RulesSpelled
+pub mod RulesWritten
 pub mod Slots
 pub mod Sums
 pub mod Watching

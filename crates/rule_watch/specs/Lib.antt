@@ -1,6 +1,7 @@
 pub mod Aggregates
 pub mod Faults
 pub mod Holding
+pub mod Laws
 pub mod Lines
 pub mod Queues
 pub mod Reading
@@ -8,5 +9,6 @@ pub mod Rows
 pub mod Rules
 pub mod Running
 pub mod Shown
+pub mod Spelling
 pub mod Watched
 pub mod Windows

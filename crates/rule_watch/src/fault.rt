@@ -6,7 +6,7 @@ use pcp_base::NoMemory;
 use text_lines::TakeFault;
 use thiserror::Error;
 
-/// Why a line is refused: it isn't a rule, its label stands before it, or it is the 65th rule.
+/// Why a line is refused: it isn't a rule, its label stands before it, or 64 rules do; the first of these that is so.
 #[derive(Clone, Copy, Debug, PartialEq, Eq, Error)]
 pub enum RuleLineFault {
     #[error("no rule")]

@@ -5,6 +5,7 @@
 
 mod aggregate;
 mod fault;
+mod laws;
 mod line;
 mod queue;
 mod reading;
@@ -17,6 +18,7 @@ mod window;
 
 pub use aggregate::Aggregate;
 pub use fault::{ReadRulesError, RuleFault, RuleLineFault};
+pub use laws::{only_rules_are_read, pushes_tell, rules_are_read};
 pub use reading::Rules;
 pub use rule::{Comparison, Condition, Joint, Quantifier, Rule};
 pub use watch::Watch;

@@ -1,9 +1,8 @@
 //! A line of a text of rules.
-ghost use Rattle.std.specs.Prelude.{◌≡◌, ◌≤◌, [], ◌∷◌, length, IfOk, IfSome};
+ghost use Rattle.std.specs.Prelude.{◌≡◌, [], ◌∷◌};
 ghost use Rattle.text_lines.specs.Numbers.{whole_number};
 ghost use Rattle.text_lines.specs.Words.{Read, Taken, take_as};
 ghost use Rattle.rule_watch.specs.Lines.{aggregate_of_word, collect, comparison_of, is_label, joint_at, keyword, quantifier_of, rule_line, rule_of, size_of, take_condition, take_joined, take_metric, take_label};
-ghost use Rattle.rule_watch.specs.Rules.{AreConditions, IsCondition, IsRule};
 
 use crate::aggregate::Aggregate;
 use crate::rule::{Comparison, Condition, Joint, Quantifier, Rule};
@@ -107,8 +106,7 @@ fn take_comparison(rest: &mut Rest) -> Result<Comparison, TakeFault>
 // The number of a window's values, 1 to 1,000.
 #[tactic(auto, unfolding(crate::specs::Lines::size_of))]
 fn size_of(word: &[u8]) -> Option<u32>
-    ensures value { result ≡ size_of word.now }
-    ensures range { IfSome result (λ n. (1 ≤ n) × (n ≤ 1000)) }
+    ensures { result ≡ size_of word.now }
 {
     let number = read_number(word)?;
     if number < 1 {
@@ -122,8 +120,7 @@ fn size_of(word: &[u8]) -> Option<u32>
 
 #[tactic(auto, unfolding(text_lines::specs::Words::take_as))]
 fn take_size(rest: &mut Rest) -> Result<u32, TakeFault>
-    ensures taken { Taken (take_as size_of rest.old) result rest.new }
-    ensures range { IfOk result (λ n. (1 ≤ n) × (n ≤ 1000)) }
+    ensures { Taken (take_as size_of rest.old) result rest.new }
 {
     let word = rest.word()?;
     let size = size_of(word).ok_or(TakeFault::NoLine)?;
@@ -174,8 +171,7 @@ fn take_label(alloc: Global, rest: &mut Rest) -> Result<Text, TakeFault>
 
 #[tactic(auto, unfolding(crate::specs::Lines::take_condition))]
 fn take_condition(alloc: Global, rest: &mut Rest) -> Result<Condition, TakeFault>
-    ensures taken { Taken (take_condition rest.old) result rest.new }
-    ensures range { IfOk result IsCondition }
+    ensures { Taken (take_condition rest.old) result rest.new }
 {
     let quantifier = take_quantifier(rest)?;
     let aggregate = take_aggregate(rest)?;
@@ -211,8 +207,7 @@ fn joint_at(bytes: &[u8]) -> Joint
 // One more condition, behind the word that joins it.
 #[tactic(auto, unfolding(crate::specs::Lines::take_joined))]
 fn take_joined(alloc: Global, rest: &mut Rest, joint: Joint) -> Result<Condition, TakeFault>
-    ensures taken { Taken (take_joined joint rest.old) result rest.new }
-    ensures range { IfOk result IsCondition }
+    ensures { Taken (take_joined joint rest.old) result rest.new }
 {
     match joint {
         Joint::And => expect_word(rest, b"and")?,
@@ -229,9 +224,7 @@ fn collect(
     joint: Joint,
     first: Condition,
 ) -> Result<List<Condition>, TakeFault>
-    requires { IsCondition first }
-    ensures read { Read (collect 7 joint (first ∷ []) rest.old) result }
-    ensures range { IfOk result AreConditions }
+    ensures { Read (collect 7 joint (first ∷ []) rest.old) result }
 {
     let mut conditions = List::empty(alloc);
     conditions.push(first)?;
@@ -249,8 +242,7 @@ fn collect(
 
 #[tactic(auto, unfolding(crate::specs::Lines::rule_line))]
 fn rule_line(alloc: Global, bytes: &[u8]) -> Result<Rule, TakeFault>
-    ensures read { Read (rule_line bytes.now) result }
-    ensures range { IfOk result IsRule }
+    ensures { Read (rule_line bytes.now) result }
 {
     let mut rest = Rest::new(bytes);
     let label = take_label(alloc, &mut rest)?;
@@ -268,8 +260,7 @@ fn rule_line(alloc: Global, bytes: &[u8]) -> Result<Rule, TakeFault>
 /// The rule of a line, which is without its line feed.
 #[tactic(auto, unfolding(crate::specs::Lines::rule_of))]
 pub fn rule_of(alloc: Global, line: &[u8]) -> Result<Rule, TakeFault>
-    ensures read { Read (rule_of line.now) result }
-    ensures range { IfOk result IsRule }
+    ensures { Read (rule_of line.now) result }
 {
     let (word, left) = split_word(line);
     if word != b"rule".as_slice() {

@@ -77,7 +77,8 @@ fn take_lines(alloc: Global, text: &[u8]) -> Result<List<Rule>, ReadRulesError>
 
 impl Rules {
     /// Reads a text of rules, or tells the first fault in the order of the lines: `Grammar` where a line isn't a rule or
-    /// is without its line feed, `Condition` where its label stands before, `Many` where 64 rules do.
+    /// is without its line feed, `Condition` where its label stands before, `Many` where 64 rules do. A line that has
+    /// several is told by the first of these. An empty text is no rules.
     pub fn read(alloc: Global, text: &[u8]) -> Result<Rules, ReadRulesError>
         ensures { Answers (rules_of text.now) result }
     {

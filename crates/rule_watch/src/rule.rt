@@ -27,7 +27,7 @@ pub enum Joint {
     Or,
 }
 
-/// A condition on the windows of a metric's instances, which have `size` values, 1 to 1,000.
+/// A condition on the windows of a metric's instances, which have `size` values, 1 to 1,000 where it was read.
 #[derive(Drop)]
 pub struct Condition {
     pub quantifier: Quantifier,
@@ -38,7 +38,7 @@ pub struct Condition {
     pub number: i128,
 }
 
-/// A rule: its label, and one to eight conditions.
+/// A rule: its label, and its conditions, which are one to eight where it was read.
 #[derive(Drop)]
 pub struct Rule {
     pub label: Text,

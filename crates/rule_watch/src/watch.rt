@@ -4,7 +4,7 @@ ghost use Rattle.std.specs.List.{All};
 ghost use Rattle.std.specs.Option.{option_copied, option_map};
 ghost use Rattle.std.specs.Vec.{vec_capacity};
 ghost use Rattle.rule_watch.specs.Rows.{Row};
-ghost use Rattle.rule_watch.specs.Rules.{AreConditions, AreRules, IsRule};
+ghost use Rattle.rule_watch.specs.Rules.{AreConditions, AreRules, IsWritten};
 ghost use Rattle.rule_watch.specs.Shown.{Answers, Shows, rules_of};
 ghost use Rattle.rule_watch.specs.Watched.{AreValues, AreWatched, EachTo, IsFresh, IsFreshRule, IsReadyRule, IsWatchedRule, Stays, Takes, Turns, places_from, kept_rules, rule_of, watched_holds};
 
@@ -120,7 +120,7 @@ fn watch_conditions(
 }
 
 fn watch_rule(alloc: Global, rule: Rule) -> Result<WatchedRule, NoMemory>
-    requires { IsRule rule }
+    requires { IsWritten rule }
     ensures rule { IfOk result (λ made. rule_of made ≡ rule) }
     ensures fresh { IfOk result IsFreshRule }
 {

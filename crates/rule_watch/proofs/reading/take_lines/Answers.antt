@@ -1,5 +1,5 @@
 -- The lines end, stop or go on.
-use Rattle.std.proofs.Common.{◌≡◌, ℕ, ◌+◌, List, length, Err, sym, ap, ◌∙◌, subst, arith}
+use Rattle.std.proofs.Common.{◌≡◌, ℕ, ◌+◌, List, length, Err, sym, ap, ◌∙◌, subst}
 use Rattle.std.proofs.lemmas.Bool.{eqb-true}
 use Rattle.text_lines.specs.Lines.{lines_of}
 use Rattle.rule_watch.specs.declared.rule.Rule.{Rule}
@@ -7,12 +7,13 @@ use Rattle.rule_watch.specs.Lines.{rule_of}
 use Rattle.rule_watch.specs.Reading.{Answers, rules_of, with_lines}
 use Rattle.rule_watch.specs.Rules.{AreRules}
 use Rattle.rule_watch.proofs.RuleLines.{line_goes_on, lines_end, one_more, refused, some_bytes, starts, unended_fault}
+use Rattle.rule_watch.proofs.Labels.{no_rules}
 use Rattle.rule_watch.proofs.reading.take_lines.Goals as goal
 
 pub loop-rest-init : goal.loop-rest-init
 loop-rest-init c = record {
   leads = starts c.args.text.now ∙ ap (λ (rs : List Rule). with_lines (lines_of c.args.text.now) (length rs + 1) rs) (sym c.empty-rules.ensures);
-  rules = subst AreRules (sym c.empty-rules.ensures) record { few = omega arith; each = tt };
+  rules = subst AreRules (sym c.empty-rules.ensures) no_rules;
 }
 
 pub returns-in_default-clause-read : goal.returns-in_default-clause-read

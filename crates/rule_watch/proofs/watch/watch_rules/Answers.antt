@@ -5,7 +5,7 @@ use Rattle.std.proofs.lemmas.List.{map-append, reverse-append}
 use Rattle.std.proofs.lemmas.List.Elements.{All-push}
 use Rattle.rule_watch.specs.declared.rule.Rule.{Rule}
 use Rattle.rule_watch.specs.declared.watched.WatchedRule.{WatchedRule}
-use Rattle.rule_watch.specs.Rules.{IsRule}
+use Rattle.rule_watch.specs.Rules.{IsWritten}
 use Rattle.rule_watch.specs.Watched.{IsFreshRule, rule_of}
 use Rattle.rule_watch.proofs.watch.watch_rules.Goals as goal
 
@@ -24,5 +24,5 @@ loop-rule-preserved c =
           ∙ ap (λ (rs : List Rule). map rule_of made ++ rs) (sym front)
           ∙ c.loop-rule.invariant.rules;
       fresh = subst (All IsFreshRule) (sym grown) (All-push IsFreshRule made next c.loop-rule.invariant.fresh c.in_ok-watch_rule.ensures.fresh);
-      right = (let all : AllByRecursion IsRule (c.in-Some.rule ∷ rest) = subst (AllByRecursion IsRule) front c.loop-rule.invariant.right in all.1);
+      right = (let all : AllByRecursion IsWritten (c.in-Some.rule ∷ rest) = subst (AllByRecursion IsWritten) front c.loop-rule.invariant.right in all.1);
     }
