@@ -1,5 +1,5 @@
 -- Where nothing is lacking the facts tell enough of the sets.
-use Rattle.std.proofs.Common.{◌≡◌, ◌≢◌, ◌⊎◌, inl, inr, ℕ, zero, suc, ℤ, ◌<◌, Bool, true, false, not, ◌&&◌, ◌||◌, ◌==◌, cond, nat_eq, List, [], ◌∷◌, ◌++◌, length, map, refl, sym, ap, ◌∙◌, subst, arith, append-nil, append_assoc, Option, Some, None}
+use Rattle.std.proofs.Common.{◌≡◌, ◌≢◌, ◌⊎◌, inl, inr, ℕ, zero, suc, ℤ, Bool, true, false, not, ◌&&◌, ◌||◌, ◌==◌, cond, nat_eq, List, [], ◌∷◌, ◌++◌, map, refl, sym, ap, ◌∙◌, subst, arith, append-nil, append_assoc, Option, Some, None}
 use Rattle.std.specs.Prelude.{filter, fold, is_none, is_some, option_to_list, IsTrue}
 use Rattle.std.specs.BTreeSet.{insert_key}
 use Rattle.std.specs.List.{AllByRecursion, list_all}
@@ -21,8 +21,7 @@ use Rattle.archive_meta.specs.declared.facts.Facts.{Facts}
 use Rattle.archive_meta.specs.Enough.{AreEnough, AreListed, IsListed, IsTold}
 use Rattle.archive_meta.specs.Facts.{fact_of, has_values, listed_of}
 use Rattle.archive_meta.specs.Said.{desc_of, description_of, names_of}
-use Rattle.archive_merge.specs.declared.fault.MergeFault.{MergeFault}
-use Rattle.archive_merge.specs.Facts.{both_lists, clash_of, domain_facts, domains_used, fact_of_set, facts_about, facts_between, facts_of, first_clash, first_lacking, has_domain, is_described, is_lacking, lack_in, listed_where, misfit_between, misfit_of, or_else, with_domain_of, with_used}
+use Rattle.archive_merge.specs.Facts.{both_lists, clash_of, domains_used, fact_of_set, facts_about, facts_between, facts_of, first_clash, first_lacking, has_domain, is_described, is_lacking, lack_in, listed_where, misfit_between, misfit_of, or_else, with_domain_of, with_used}
 use Rattle.archive_merge.specs.Merging.{IsNew, has_metric, sets_of_both, sets_of_first, sets_of_second}
 use Rattle.archive_merge.specs.Naming.{Pairs, fact_about, fact_from, name_in, names_all, pairs_at}
 use Rattle.archive_merge.proofs.Grown.{both_are, second_new}
@@ -51,7 +50,7 @@ fact_key (Description d names ∷ records) pmid f e = by (nat_eq pmid d.pmid) re
     by true k (n ∷ ns) h more = let same : (d, n) ≡ f = cc in sym (ap (λ (x : Desc × List ℕ). x.0.pmid) same) ∙ sym (eqb-true pmid d.pmid k)
     by false k ns h more = more h
 
-flipped : (a b : ℕ) → nat_eq a b ≡ false → nat_eq b a ≡ false
+pub flipped : (a b : ℕ) → nat_eq a b ≡ false → nat_eq b a ≡ false
 flipped a b e = by (nat_eq b a) refl
   where
     by : (c : Bool) → nat_eq b a ≡ c → c ≡ false
@@ -88,7 +87,7 @@ module _ (records : List MetaRecord) where
           subst (λ (n : ℕ). fact_of (fact_of_set records x ++ rest) n ≡ Some f) is (fact_here x f rest v (ap (fact_about records) is ∙ e))
       by true same false v = ap (λ (b : Bool). fact_of (cond {A = List (Desc × List ℕ)} b (option_to_list (fact_about records x.pmid)) [] ++ rest) k) v ∙ more
 
-  found_here : (sets : List ValueSet) (rest : List (Desc × List ℕ)) (set : ValueSet) (f : Desc × List ℕ) → Stands set sets → has_values set.body ≡ true → fact_about records set.pmid ≡ Some f
+  pub found_here : (sets : List ValueSet) (rest : List (Desc × List ℕ)) (set : ValueSet) (f : Desc × List ℕ) → Stands set sets → has_values set.body ≡ true → fact_about records set.pmid ≡ Some f
       → fact_of (facts_about records sets ++ rest) set.pmid ≡ Some f
   found_here [] rest set f stands v e = absurd stands
   found_here (x ∷ sets) rest set f (inl is) v e =
@@ -98,7 +97,7 @@ module _ (records : List MetaRecord) where
       ap (λ (l : List (Desc × List ℕ)). fact_of l set.pmid) (append_assoc (fact_of_set records x) (facts_about records sets) rest)
       ∙ fact_on x (facts_about records sets ++ rest) set.pmid f e (found_here sets rest set f more v e)
 
-  found_past : (sets : List ValueSet) (rest : List (Desc × List ℕ)) (k : ℕ) → has_metric k sets ≡ false → fact_of (facts_about records sets ++ rest) k ≡ fact_of rest k
+  pub found_past : (sets : List ValueSet) (rest : List (Desc × List ℕ)) (k : ℕ) → has_metric k sets ≡ false → fact_of (facts_about records sets ++ rest) k ≡ fact_of rest k
   found_past [] rest k none = refl
   found_past (x ∷ sets) rest k none = by (nat_eq x.pmid k) refl none (found_past sets rest k)
     where
@@ -125,7 +124,7 @@ module _ (records : List MetaRecord) where
       pub found : fact_about records set.pmid ≡ Some fact
       pub named : (fact.0.indom ≡ null_indom) ⊎ ((fact.0.indom ≢ null_indom) × (names_all (pairs_at records fact.0.indom t) set.body ≡ true))
 
-    good : (set : ValueSet) → has_values set.body ≡ true → is_lacking records t set ≡ false → IsGood set
+    pub good : (set : ValueSet) → has_values set.body ≡ true → is_lacking records t set ≡ false → IsGood set
     good set v none = by (fact_about records set.pmid) refl (all_there (has_values set.body) (is_described records t set (fact_about records set.pmid)) v none)
       where
         all_there : (c d : Bool) → c ≡ true → (c && not d) ≡ false → d ≡ true
@@ -143,7 +142,7 @@ module _ (records : List MetaRecord) where
 
 -- ---- domains
 
-or_true : (b : Bool) → (b || true) ≡ true
+pub or_true : (b : Bool) → (b || true) ≡ true
 or_true true = refl
 or_true false = refl
 
@@ -185,7 +184,7 @@ module _ (records : List MetaRecord) where
       by true = kept_with q (fact_about records x.pmid) ds h
       by false = h
 
-  kept_all : (q : ℕ) (sets : List ValueSet) (ds : List ℕ) → has_domain q ds ≡ true → has_domain q (fold (with_used records) ds sets) ≡ true
+  pub kept_all : (q : ℕ) (sets : List ValueSet) (ds : List ℕ) → has_domain q ds ≡ true → has_domain q (fold (with_used records) ds sets) ≡ true
   kept_all q [] ds h = h
   kept_all q (x ∷ sets) ds h = kept_all q sets (with_used records ds x) (kept_one q x ds h)
 
@@ -199,14 +198,14 @@ module _ (records : List MetaRecord) where
       by true k = absurd (apart (eqb-true f.0.indom null_indom k))
       by false k = has_inserted f.0.indom ds
 
-  used : (sets : List ValueSet) (set : ValueSet) (f : Desc × List ℕ) (ds : List ℕ) → Stands set sets → has_values set.body ≡ true → fact_about records set.pmid ≡ Some f → f.0.indom ≢ null_indom
+  pub used : (sets : List ValueSet) (set : ValueSet) (f : Desc × List ℕ) (ds : List ℕ) → Stands set sets → has_values set.body ≡ true → fact_about records set.pmid ≡ Some f → f.0.indom ≢ null_indom
       → has_domain f.0.indom (fold (with_used records) ds sets) ≡ true
   used [] set f ds stands v e apart = absurd stands
   used (x ∷ sets) set f ds (inl is) v e apart =
       kept_all f.0.indom sets (with_used records ds x) (subst (λ (s : ValueSet). has_domain f.0.indom (with_used records ds s) ≡ true) (sym is) (used_one set f ds v e apart))
   used (x ∷ sets) set f ds (inr more) v e apart = used sets set f (with_used records ds x) more v e apart
 
-listed_found : (make : ℕ → Pairs) (k : ℕ) (all : List ℕ) → has_domain k all ≡ true → listed_of (map (λ (d : ℕ). (d, make d)) all) k ≡ Some (k, make k)
+pub listed_found : (make : ℕ → Pairs) (k : ℕ) (all : List ℕ) → has_domain k all ≡ true → listed_of (map (λ (d : ℕ). (d, make d)) all) k ≡ Some (k, make k)
 listed_found make k [] h = absurd (cc)
 listed_found make k (d ∷ all) h = by (nat_eq d k) refl (listed_found make k all)
   where
@@ -270,7 +269,7 @@ module _ (from to : Pairs) (goes : (i : ℤ) → is_some (name_in i from) ≡ tr
       by true e g more = (name_stands p.0 to (goes p.0 e), more g)
       by false e g more = absurd (cc)
 
-  all_listed : (body : Body) → names_all from body ≡ true → AreListed to body
+  pub all_listed : (body : Body) → names_all from body ≡ true → AreListed to body
   all_listed (InPlace shown) h = each_listed shown h
   all_listed (Blocks shown) h = each_listed shown h
   all_listed (Status n) h = tt

@@ -1,12 +1,13 @@
 -- The sets that stand of both sources: those of the first, and behind them sets of metrics that the first has none of.
-use Rattle.std.proofs.Common.{◌≡◌, ◌⊎◌, inl, inr, ℕ, Bool, true, false, ◌||◌, cond, nat_eq, List, [], ◌∷◌, ◌++◌, length, drop, take, refl, sym, ap, ◌∙◌, subst, append-nil, append_assoc}
+use Rattle.std.proofs.Common.{◌≡◌, inl, inr, Bool, true, false, ◌||◌, cond, nat_eq, List, [], ◌∷◌, ◌++◌, length, drop, refl, sym, ap, ◌∙◌, subst, append-nil, append_assoc}
 use Rattle.std.specs.List.{AllByRecursion}
 use Rattle.std.proofs.lemmas.List.Folds.{list_any-append}
 use Rattle.std.proofs.Math.Seq.{drop-append_seam}
 use Rattle.pcp_base.specs.declared.result.ValueSet.{ValueSet}
 use Rattle.pcp_model.proofs.Lists.{each-map}
 use Rattle.archive_merge.specs.Laws.{AreOfBoth, IsOneOf}
-use Rattle.archive_merge.specs.Merging.{IsNew, has_metric, sets_of_both, sets_of_first, sets_of_second, with_set, with_sets}
+use Rattle.archive_merge.specs.Merging.{IsNew, has_metric, sets_of_both, sets_of_first, sets_of_second, with_sets}
+use Rattle.archive_merge.proofs.Firsts.{all_are, firsts_are}
 
 pub record Grows (front more : List ValueSet) : Type 0 where
   pub others : List ValueSet
@@ -60,6 +61,8 @@ module _ (ours theirs : List ValueSet) where
   pub of_both : AreOfBoth ours theirs
   of_both = record {
     parts = both_are;
+    firsts = firsts_are ours;
+    all = all_are ours theirs;
     first = subst (AllByRecursion (IsOneOf ours)) (sym (grown [] ours).is) (grown [] ours).theirs;
     second = subst (AllByRecursion (IsOneOf theirs)) (sym second_is) both.theirs;
     new = second_new;

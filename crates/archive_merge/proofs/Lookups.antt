@@ -1,5 +1,5 @@
 -- What tables and lists are looked up for.
-use Rattle.std.proofs.Common.{◌≡◌, ◌≢◌, inl, inr, ℕ, zero, suc, ℤ, ◌+◌, ◌≤◌, ◌<◌, ◌⊎◌, get_or, Bool, true, false, not, ◌&&◌, ◌||◌, ◌==◌, cond, nat_eq, nat_lt, List, [], ◌∷◌, ◌++◌, length, take, drop, refl, sym, ap, ◌∙◌, subst, arith, w32, to_z, of_z, add-one, append_assoc, Option, Some, None}
+use Rattle.std.proofs.Common.{◌≡◌, ◌≢◌, inl, inr, ℕ, zero, suc, ℤ, ◌+◌, ◌≤◌, ◌<◌, ◌⊎◌, get_or, Bool, true, false, ◌||◌, ◌==◌, cond, nat_eq, nat_lt, List, [], ◌∷◌, ◌++◌, length, take, drop, refl, sym, ap, ◌∙◌, subst, arith, w32, to_z, of_z, add-one, append_assoc, Option, Some, None}
 use Rattle.std.specs.Prelude.{filter, is_none, is_some, option_to_list, FitsSigned, MatchOption}
 use Rattle.std.specs.BTreeMap.{is_at}
 use Rattle.std.specs.BTreeSet.{BTreeSet, Updates, contains}
@@ -18,7 +18,7 @@ use Rattle.pcp_base.specs.declared.result.Body.TheVariants.{InPlace, Blocks, Sta
 use Rattle.pcp_base.specs.declared.result.ValueSet.{ValueSet}
 use Rattle.pcp_model.specs.declared.records.MetaRecord.{MetaRecord}
 use Rattle.pcp_model.specs.Described.{HoldsAt}
-use Rattle.archive_merge.specs.Facts.{HasNumbers, both_lists, has_domain, kept_of, listed_where, pairs_in}
+use Rattle.archive_merge.specs.Facts.{HasNumbers, has_domain, kept_of, listed_where, pairs_in}
 use Rattle.archive_merge.specs.Merging.{Sees, has_metric}
 use Rattle.archive_merge.specs.Naming.{Pairs, differ, name_in, pairs_at, renames}
 use Rattle.archive_merge.proofs.Held.{held_is_found, nothing_held}

@@ -13,5 +13,8 @@ mod sets;
 
 pub use facts::describe;
 pub use fault::MergeFault;
-pub use laws::{each_stamp_stands_once, facts_are_enough, sets_are_of_both};
+pub use laws::{
+    domains_are_listed, each_stamp_stands_once, facts_are_enough, facts_are_of_sources,
+    misfits_say_why, sets_are_in_order, sets_are_of_both, sources_say_so,
+};
 pub use sets::StampSets;

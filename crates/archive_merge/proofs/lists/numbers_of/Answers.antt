@@ -1,4 +1,4 @@
-use Rattle.std.proofs.Common.{◌≡◌, ℤ, true, length, w32, to_z, of_z, rules, refl, ap, subst, arith}
+use Rattle.std.proofs.Common.{◌≡◌, ℤ, true, length, w32, to_z, of_z, rules, refl, subst, arith}
 use Rattle.std.specs.BTreeSet.{Updates}
 use Rattle.std.specs.Ordering.{int_cmp}
 use Rattle.std.proofs.lemmas.Int.{to_z-of_z}

@@ -1,4 +1,4 @@
-use Rattle.std.proofs.Common.{◌≡◌, ℤ, Bool, true, false, [], ◌∷◌, ◌++◌, w32, to_z, of_z, rules, sym, ap, ◌∙◌, subst, append-nil}
+use Rattle.std.proofs.Common.{◌≡◌, ℤ, true, false, [], ◌∷◌, ◌++◌, w32, to_z, of_z, rules, sym, ap, ◌∙◌, subst, append-nil}
 use Rattle.std.specs.BTreeSet.{contains}
 use Rattle.std.specs.List.{slice_get}
 use Rattle.std.specs.Ordering.{int_cmp}
