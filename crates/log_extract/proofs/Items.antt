@@ -1,37 +1,34 @@
 -- The items of what is left of two sources, logged one behind another.
-use Rattle.std.proofs.Common.{◌≡◌, ◌⊎◌, inl, inr, ℕ, List, [], ◌∷◌, ◌++◌, length, map, take, drop, refl, sym, ap, ◌∙◌, subst, append-nil, append_assoc, Option, Some, None, Result, Ok, Err}
-use Rattle.std.specs.List.{AllByRecursion}
+use Rattle.std.proofs.Common.{◌≡◌, ◌⊎◌, inl, inr, ℕ, List, [], ◌∷◌, ◌++◌, length, take, drop, refl, sym, ap, ◌∙◌, subst, Option, Some, None, Ok, Err}
 use Rattle.std.proofs.lemmas.List.{take-append-drop}
 use Rattle.pcp_base.specs.Time.{Moment}
 use Rattle.pcp_base.specs.declared.result.PmResult.{PmResult}
 use Rattle.pcp_base.specs.declared.result.ValueSet.{ValueSet}
 use Rattle.pcp_model.specs.declared.records.MetaRecord.{MetaRecord}
-use Rattle.pcp_model.specs.Disk.{Files, Holdings, contents_of}
+use Rattle.pcp_model.specs.Disk.{Holdings, contents_of}
 use Rattle.pcp_outside.specs.declared.disk.Disk.{Ghosts as DiskGhosts}
-use Rattle.archive_check.specs.declared.fault.CheckFault.{CheckFault}
 use Rattle.archive_loading.specs.Loaded.{Loaded}
 use Rattle.archive_loading.specs.Looks.{Looks}
 use Rattle.archive_meta.specs.declared.facts.Facts.{Facts}
 use Rattle.archive_meta.specs.Enough.{AreEnough}
 use Rattle.archive_merge.specs.declared.fault.MergeFault.{MergeFault}
 use Rattle.archive_merge.specs.declared.fault.MergeFault.TheVariants.{NoMemory}
-use Rattle.archive_merge.specs.Facts.{facts_between, facts_of, misfit_between, misfit_of}
+use Rattle.archive_merge.specs.Facts.{facts_between, misfit_between}
 use Rattle.archive_merge.specs.Merging.{at_each, merged_result, sets_at, sets_of_both, sets_of_first, sets_of_second}
-use Rattle.archive_merge.specs.Order.{NoneBefore, Rises, after}
+use Rattle.archive_merge.specs.Order.{NoneBefore, after}
 use Rattle.archive_merge.proofs.Enough.{enough}
 use Rattle.archive_merge.proofs.Steps.{after_rises}
 use Rattle.logging_session.specs.Keeping.{Carried}
 use Rattle.logging_session.specs.Written.{Report}
-use Rattle.logging_run.specs.declared.fault.RunFault.{RunFault}
 use Rattle.logging_run.specs.Handing.{Handed, each_held}
-use Rattle.logging_run.specs.Running.{Runs, Stops}
+use Rattle.logging_run.specs.Running.{Runs}
 use Rattle.logging_run.proofs.Events.{held_grows}
 use Rattle.log_extract.specs.declared.cursor.Cursor.{Cursor}
 use Rattle.log_extract.specs.declared.fault.ExtractFault.{ExtractFault}
 use Rattle.log_extract.specs.declared.fault.ExtractFault.TheVariants.{Archive, Merge, Source}
-use Rattle.log_extract.specs.Cursors.{AreParted, IsReady, Leaves, TakesBoth, earliest, next_stamp}
+use Rattle.log_extract.specs.Cursors.{AreParted, Leaves, TakesBoth, earliest, next_stamp}
 use Rattle.log_extract.specs.Judging.{Judged, all_fit, judge, judge_parts, judged_by}
-use Rattle.log_extract.specs.Logging.{AreLeft, BeginWith, HasLogged, IsMisfit, IsNextOf, IsOfSource, LogsAll, LogsNext, judged_left}
+use Rattle.log_extract.specs.Logging.{AreLeft, HasLogged, IsMisfit, IsOfSource, LogsAll, LogsNext, judged_left}
 use Rattle.log_extract.proofs.Steps.{Comes, comes_first, none_comes}
 use Rattle.log_extract.proofs.Stamps.{head_of}
 

@@ -1,8 +1,8 @@
 -- A source is opened, or turned back; and what breaks its reading off later.
-use Rattle.std.proofs.Common.{◌≡◌, ◌⊎◌, ℕ, List, inl, inr, refl, sym, ap, ◌∙◌, subst, Option, None, Result, Ok, Err, IfErr}
+use Rattle.std.proofs.Common.{◌≡◌, ℕ, List, inl, inr, refl, sym, ap, ◌∙◌, subst, Option, None, Result, Ok, Err, IfErr, OnOk}
 use Rattle.pcp_base.specs.declared.file.FileId.{FileId}
 use Rattle.pcp_base.specs.declared.result.Item.{Item}
-use Rattle.pcp_model.specs.Archive.{ArchiveReading, Reads, records_in, scan}
+use Rattle.pcp_model.specs.Archive.{Reads, records_in, scan}
 use Rattle.pcp_model.specs.Disk.{Files, Holdings, contents_of}
 use Rattle.pcp_outside.specs.Causes.{Rose}
 use Rattle.pcp_outside.specs.declared.disk.Disk.{Ghosts as DiskGhosts}
@@ -21,7 +21,7 @@ use Rattle.log_extract.specs.declared.cursor.Cursor.{Cursor}
 use Rattle.log_extract.specs.declared.fault.ExtractFault.{ExtractFault}
 use Rattle.log_extract.specs.declared.fault.ExtractFault.TheVariants.{Archive, Merge, Source as Unread}
 use Rattle.log_extract.specs.Cursors.{IsReady, Leaves, OpensSource}
-use Rattle.log_extract.specs.Logging.{BlamesSources, IsOfItem}
+use Rattle.log_extract.specs.Logging.{AreQuiet, BlamesSources, IsOfItem, QuietBut}
 use Rattle.log_extract.specs.Sources.{IsBroken, IsBrokenOff, IsLack, IsTurnedBack}
 
 module _ {D : Type 0} (d : DiskGhosts D) where
@@ -117,3 +117,30 @@ module _ {A B : Type 0} (a : DiskGhosts A) (b : DiskGhosts B) where
       → IfErr result (BlamesSources a b first_mid first_is second_mid second_is) → IfErr result (BlamesSources a b first_was first_is second_was second_is)
   blames_if first_was first_mid first_is second_was second_mid second_is (Ok done) one two blames = tt
   blames_if first_was first_mid first_is second_was second_mid second_is (Err e) one two blames = blames_from first_was first_mid first_is second_was second_mid second_is e one two blames
+
+  -- ---- calls that failed
+
+  abbrev pub QuietIn : A → A → B → B → Result (Unit {0}) ExtractFault → Type 0
+  QuietIn first_was first_is second_was second_is (Ok done) = AreQuiet a b first_was first_is second_was second_is
+  QuietIn first_was first_is second_was second_is (Err e) = QuietBut a b first_was first_is second_was second_is e
+
+  pub quiet_on : (first_was first_mid first_is : A) (second_was second_mid second_is : B) → a.faults first_mid ≡ a.faults first_was → b.faults second_mid ≡ b.faults second_was
+      → AreQuiet a b first_mid first_is second_mid second_is → AreQuiet a b first_was first_is second_was second_is
+  quiet_on first_was first_mid first_is second_was second_mid second_is one two q = record { first = q.first ∙ one; second = q.second ∙ two }
+
+  pub quiet_from : (first_was first_mid first_is : A) (second_was second_mid second_is : B) (e : ExtractFault) → a.faults first_mid ≡ a.faults first_was → b.faults second_mid ≡ b.faults second_was
+      → QuietBut a b first_mid first_is second_mid second_is e → QuietBut a b first_was first_is second_was second_is e
+  quiet_from first_was first_mid first_is second_was second_mid second_is (Unread number fault) one two (inl q) = inl (q.0, q.1 ∙ two)
+  quiet_from first_was first_mid first_is second_was second_mid second_is (Unread number fault) one two (inr q) = inr (q.0, q.1 ∙ one)
+  quiet_from first_was first_mid first_is second_was second_mid second_is (Merge fault) one two q = quiet_on first_was first_mid first_is second_was second_mid second_is one two q
+  quiet_from first_was first_mid first_is second_was second_mid second_is (Archive fault) one two q = quiet_on first_was first_mid first_is second_was second_mid second_is one two q
+
+  pub quiet_of_item : (first_was first_is : A) (second_was second_is : B) (e : ExtractFault) → IsOfItem e → AreQuiet a b first_was first_is second_was second_is → QuietBut a b first_was first_is second_was second_is e
+  quiet_of_item first_was first_is second_was second_is (Unread number fault) item q = absurd item
+  quiet_of_item first_was first_is second_was second_is (Merge fault) item q = q
+  quiet_of_item first_was first_is second_was second_is (Archive fault) item q = q
+
+  pub quiet_in : (first_was first_mid first_is : A) (second_was second_mid second_is : B) (result : Result (Unit {0}) ExtractFault) → a.faults first_mid ≡ a.faults first_was → b.faults second_mid ≡ b.faults second_was
+      → OnOk result (AreQuiet a b first_mid first_is second_mid second_is) → IfErr result (QuietBut a b first_mid first_is second_mid second_is) → QuietIn first_was first_is second_was second_is result
+  quiet_in first_was first_mid first_is second_was second_mid second_is (Ok done) one two q others = quiet_on first_was first_mid first_is second_was second_mid second_is one two q
+  quiet_in first_was first_mid first_is second_was second_mid second_is (Err e) one two q others = quiet_from first_was first_mid first_is second_was second_mid second_is e one two others

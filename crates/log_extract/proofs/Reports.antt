@@ -1,5 +1,5 @@
 -- Reports of items are those of the merge.
-use Rattle.std.proofs.Common.{◌≡◌, ℕ, List, [], ◌∷◌, ◌++◌, length, map, take, refl, sym, ap, ◌∙◌, append-nil, Option, Some, None}
+use Rattle.std.proofs.Common.{◌≡◌, List, [], ◌∷◌, ◌++◌, length, map, take, refl, ap, ◌∙◌, subst, append-nil, Option, Some, None}
 use Rattle.pcp_base.specs.Time.{Moment}
 use Rattle.pcp_base.specs.declared.result.Item.{Item}
 use Rattle.pcp_base.specs.declared.result.Item.TheVariants.{Sample}
@@ -9,8 +9,18 @@ use Rattle.archive_merge.specs.Facts.{facts_of, misfit_of}
 use Rattle.archive_merge.specs.Merging.{merge, merged_result, samples_of, sets_at, stamps_of}
 use Rattle.logging_session.specs.Written.{Report}
 use Rattle.log_extract.specs.Judging.{Judged, all_fit, judged, judged_by}
+use Rattle.log_extract.specs.Laws.{IsJudged}
 use Rattle.log_extract.specs.Logging.{BeginWith}
 use Rattle.log_extract.specs.Sources.{Source}
+
+-- what is judged of an item is of it
+module _ (first second : Source) (x : PmResult) (made : Report) (same : made.result ≡ x) where
+  abbrev Misfit : Option MergeFault
+  Misfit = misfit_of first.records second.records x.stamp (sets_at x.stamp (samples_of first.items)) (sets_at x.stamp (samples_of second.items))
+
+  judged_of : (o : Option MergeFault) → Misfit ≡ o → (j : Judged) → judged_by made o ≡ j → IsJudged first second j x
+  judged_of None is j e = subst (λ (k : Judged). IsJudged first second k x) e same
+  judged_of (Some fault) is j e = subst (λ (k : Judged). IsJudged first second k x) e is
 
 abbrev result_items : List Report → List Item
 result_items reports = map (λ (r : Report). Sample r.result) reports
@@ -55,3 +65,30 @@ module _ (first second : Source) where
 
   pub all_merged : (reports : List Report) → BeginWith (judged first second) reports [] → merge first.items second.items ≡ result_items reports
   all_merged reports e = all_are made misfit (stamps_of (samples_of first.items ++ samples_of second.items)) reports (e ∙ append-nil (all_fit reports))
+
+  -- ---- the next item
+
+  abbrev items_of : List Moment → List Item
+  items_of stamps = map Sample (map (λ t. (made t).result) stamps)
+
+  abbrev Next : List Moment → List Report → Judged → Type 0
+  Next stamps reports j = (x : PmResult) × (rest : List Item) × (items_of stamps ≡ result_items reports ++ Sample x ∷ rest) × IsJudged first second j x
+
+  next_of : (stamps : List Moment) (reports : List Report) (j : Judged) (later : List Judged) → map (λ t. judged_by (made t) (misfit t)) stamps ≡ all_fit reports ++ j ∷ later → Next stamps reports j
+  next_of [] [] j later e = absurd (cc)
+  next_of [] (r ∷ reports) j later e = absurd (cc)
+  next_of (t ∷ stamps) [] j later e =
+      let head : judged_by (made t) (misfit t) ≡ j = cc in
+      ((made t).result, items_of stamps, refl, judged_of first second (made t).result (made t) refl (misfit t) refl j head)
+  next_of (t ∷ stamps) (r ∷ reports) j later e =
+      let head : judged_by (made t) (misfit t) ≡ Judged.fits r = cc in
+      let tail : map (λ s. judged_by (made s) (misfit s)) stamps ≡ all_fit reports ++ j ∷ later = cc in
+      let (x, rest, is, so) = next_of stamps reports j later tail in (
+        x,
+        rest,
+        ap (λ (y : Report). Sample y.result ∷ items_of stamps) (fits_is (made t) r (misfit t) head) ∙ ap (λ (l : List Item). Sample r.result ∷ l) is,
+        so,
+      )
+
+  pub next_judged : (reports : List Report) (j : Judged) (later : List Judged) → BeginWith (judged first second) reports (j ∷ later) → Next (stamps_of (samples_of first.items ++ samples_of second.items)) reports j
+  next_judged reports j later e = next_of (stamps_of (samples_of first.items ++ samples_of second.items)) reports j later e

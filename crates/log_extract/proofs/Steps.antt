@@ -1,12 +1,11 @@
 -- One step of a walk through the results of two sources.
-use Rattle.std.proofs.Common.{◌≡◌, ℕ, ◌<◌, ◌≤◌, Bool, true, false, cond, nat_lt, List, [], ◌∷◌, ◌++◌, refl, sym, ap, ◌∙◌, subst, arith, Option, Some, None}
-use Rattle.std.specs.List.{AllByRecursion}
+use Rattle.std.proofs.Common.{◌≡◌, Bool, true, false, cond, nat_lt, List, [], ◌∷◌, refl, subst, arith, Option, Some, None}
 use Rattle.std.proofs.lemmas.Bool.{ltb-true, ltb-false}
 use Rattle.pcp_base.specs.Time.{Moment, microseconds}
 use Rattle.pcp_base.specs.declared.result.PmResult.{PmResult}
 use Rattle.pcp_base.specs.declared.result.ValueSet.{ValueSet}
 use Rattle.pcp_model.proofs.Lists.{each-map}
-use Rattle.archive_merge.specs.Merging.{at_each, samples_of, sets_at}
+use Rattle.archive_merge.specs.Merging.{at_each, sets_at}
 use Rattle.archive_merge.specs.Order.{AllBehind, Behind, NoneBefore, NotBefore, Rises, after}
 use Rattle.archive_merge.proofs.Steps.{first_comes, second_comes}
 use Rattle.log_extract.specs.Cursors.{earliest, next_stamp}

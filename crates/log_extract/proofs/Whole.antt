@@ -1,5 +1,5 @@
 -- A whole extract, of its beginning, of the items that were logged, and of its end.
-use Rattle.std.proofs.Common.{◌≡◌, ◌≢◌, ◌⊎◌, inl, inr, ℕ, ◌≤◌, arith, List, [], ◌∷◌, ◌++◌, length, map, append-nil, refl, sym, ap, ◌∙◌, subst, Result, Ok, Err, IfErr, IfOk, OnErr, OnOk}
+use Rattle.std.proofs.Common.{◌≡◌, inl, inr, ℕ, ◌≤◌, arith, List, [], ◌∷◌, ◌++◌, length, append-nil, refl, sym, ap, ◌∙◌, subst, Result, Ok, Err, IfErr, IfOk, OnErr, OnOk}
 use Rattle.pcp_base.specs.declared.result.Item.{Item}
 use Rattle.pcp_base.specs.declared.result.Item.TheVariants.{Sample, Mark}
 use Rattle.pcp_base.specs.declared.result.PmResult.{PmResult}
@@ -13,9 +13,7 @@ use Rattle.pcp_model.specs.declared.records.MetaRecord.{MetaRecord}
 use Rattle.pcp_outside.specs.Causes.{Rose, shown_count}
 use Rattle.pcp_outside.specs.Devices.{LeavesOnly}
 use Rattle.pcp_outside.specs.declared.disk.Disk.{Ghosts as DiskGhosts}
-use Rattle.archive_check.specs.declared.fault.CheckFault.{CheckFault}
 use Rattle.archive_loading.specs.Looks.{Looks}
-use Rattle.archive_merge.specs.declared.fault.MergeFault.{MergeFault}
 use Rattle.archive_merge.specs.Merging.{at_each, samples_of}
 use Rattle.archive_merge.specs.Order.{NoneBefore, Rises}
 use Rattle.logger_core.specs.declared.fault.LogFault.{LogFault}
@@ -25,19 +23,20 @@ use Rattle.logging_session.specs.Written.{Report}
 use Rattle.logging_run.specs.declared.fault.RunFault.{RunFault}
 use Rattle.logging_run.specs.declared.fault.RunFault.TheVariants as runs
 use Rattle.logging_run.specs.Closing.{Close, Ran}
-use Rattle.logging_run.specs.Handing.{Handed, each_held, reports_of}
-use Rattle.logging_run.specs.Running.{Fails, Rests, Runs, Stops, TurnsAway}
+use Rattle.logging_run.specs.Handing.{Handed, each_held}
+use Rattle.logging_run.specs.Running.{Fails, Rests, Stops, TurnsAway}
 use Rattle.logging_run.proofs.Events.{held_reports}
 use Rattle.log_extract.specs.declared.cursor.Cursor.{Cursor}
 use Rattle.log_extract.specs.declared.fault.ExtractFault.{ExtractFault}
 use Rattle.log_extract.specs.declared.fault.ExtractFault.TheVariants.{Archive, Merge, Source as Unread}
 use Rattle.log_extract.specs.Cursors.{Leaves, OpensSource}
-use Rattle.log_extract.specs.Extracting.{ComesNext, EndsAt, ExtractSide, Extracted, HasMerged, IsFlushed, IsPassed, Why, extract_side}
+use Rattle.log_extract.specs.Extracting.{AreStill, ComesNext, EndsAt, ExtractSide, Extracted, HasMerged, IsFlushed, IsPassed, IsQuiet, Why}
 use Rattle.log_extract.specs.Extracting.{TurnsAway as StopsAway}
 use Rattle.log_extract.specs.Faults.{begin_fault, ended_by}
 use Rattle.log_extract.specs.Judging.{Judged, judge, judged}
 use Rattle.log_extract.specs.Logging.{AreLeft, BeginWith, BlamesSources, judged_left, HasLogged, IsMisfit, IsNextOf, LogsAll}
 use Rattle.log_extract.specs.Sources.{IsSource, Source}
+use Rattle.log_extract.proofs.Opening.{QuietIn}
 
 -- ---- results of sound archives
 
@@ -125,7 +124,7 @@ module _ {A B D : Type 0} (p : ExtractSide A B D) (limit : ℕ) (first_passed : 
     (unread : p.disk.tells → (Readable (contents_of (p.disk.held p.disk_was)) → ⊥) → LeavesOnly p.disk.moment p.disk.left_since p.disk_was p.disk_is (CrashImage (p.disk.held p.disk_was))) where
   -- ---- files that aren't recovered
 
-  module _ (told : (fault : RunFault) → p.first.tells → p.second.tells → HasMerged p [] [] (Err (Archive fault))) where
+  module _ (quiet : AreStill p) (told : (fault : RunFault) → p.first.tells → p.second.tells → HasMerged p [] [] (Err (Archive fault))) where
     unbegun : (fault : RunFault) → (p.disk.tells → Ran p.disk limit [] p.disk_was p.disk_is (Close.unrecovered fault)) → Why p limit [] [] (Close.unrecovered fault) (Err (Archive fault)) → Extracted p limit (Err (Archive fault))
     unbegun fault ran why = record {
       first_passed = first_passed;
@@ -136,6 +135,7 @@ module _ {A B D : Type 0} (p : ExtractSide A B D) (limit : ℕ) (first_passed : 
       merged = told fault;
       ran = ran;
       why = why;
+      quiet = inl quiet;
       unread = unread;
     }
 
@@ -156,8 +156,28 @@ module _ {A B D : Type 0} (p : ExtractSide A B D) (limit : ℕ) (first_passed : 
     abbrev Merged : List Report → List Handed → Result ℕ ExtractFault → Type 0
     Merged reports last result = p.first.tells → p.second.tells → HasMerged p reports last result
 
-    failed : (reports : List Report) (last : List Handed) (stand : Carried) → Merged reports last (Err (Archive runs.DiskFault)) → Fails p.disk limit (each_held reports ++ last) stand p.disk_was p.disk_is → Extracted p limit (Err (Archive runs.DiskFault))
-    failed reports last stand merged fails = record {
+    abbrev Blames : Result (Unit {0}) ExtractFault → Type 0
+    Blames merged = IfErr merged (BlamesSources p.first p.second p.first_was p.first_is p.second_was p.second_is)
+
+    abbrev Quiet : Result (Unit {0}) ExtractFault → Type 0
+    Quiet merged = QuietIn p.first p.second p.first_was p.first_is p.second_was p.second_is merged
+
+    -- where the output's disk failed at the end
+    quiet_failed : (merged : Result (Unit {0}) ExtractFault) → Blames merged → Quiet merged → IsQuiet p (Err (Archive runs.DiskFault))
+    quiet_failed (Ok done) blames quiet = inl quiet
+    quiet_failed (Err (Unread number fault)) blames quiet = inr (refl, record { number = number; fault = fault; breaks = blames; other = quiet })
+    quiet_failed (Err (Merge fault)) blames quiet = inl quiet
+    quiet_failed (Err (Archive fault)) blames quiet = inl quiet
+
+    -- where it didn't
+    quiet_flushed : (n : ℕ) (merged : Result (Unit {0}) ExtractFault) → Quiet merged → IsQuiet p (ended_by (Ok n) merged)
+    quiet_flushed n (Ok done) quiet = quiet
+    quiet_flushed n (Err (Unread number fault)) quiet = quiet
+    quiet_flushed n (Err (Merge fault)) quiet = quiet
+    quiet_flushed n (Err (Archive fault)) quiet = inl quiet
+
+    failed : (reports : List Report) (last : List Handed) (stand : Carried) → IsQuiet p (Err (Archive runs.DiskFault)) → Merged reports last (Err (Archive runs.DiskFault)) → Fails p.disk limit (each_held reports ++ last) stand p.disk_was p.disk_is → Extracted p limit (Err (Archive runs.DiskFault))
+    failed reports last stand quiet merged fails = record {
       first_passed = first_passed;
       second_passed = second_passed;
       reports = reports;
@@ -166,13 +186,14 @@ module _ {A B D : Type 0} (p : ExtractSide A B D) (limit : ℕ) (first_passed : 
       merged = merged;
       ran = fails.told;
       why = (fails.rose, inr (lost_in stand.place, refl));
+      quiet = quiet;
       unread = unread;
     }
 
     -- what stands is flushed, or the disk fails in that
     ended_rests : (answer : Result ℕ RunFault) → Finishes p.disk limit p.disk_was disk p.disk_is run now answer → (reports : List Report) (last : List Handed) → Rests p.disk limit (each_held reports ++ last) run p.disk_was disk → (merged : Result (Unit {0}) ExtractFault)
-        → Merged reports last (ended_by answer merged) → ((n : ℕ) → n ≡ run.logged → IsFlushed p limit reports last Close.flushed → Why p limit reports last Close.flushed (ended_by (Ok n) merged)) → Extracted p limit (ended_by answer merged)
-    ended_rests (Ok n) g reports last rests merged told why = record {
+        → Blames merged → Quiet merged → Merged reports last (ended_by answer merged) → ((n : ℕ) → n ≡ run.logged → IsFlushed p limit reports last Close.flushed → Why p limit reports last Close.flushed (ended_by (Ok n) merged)) → Extracted p limit (ended_by answer merged)
+    ended_rests (Ok n) g reports last rests merged blames quiet told why = record {
       first_passed = first_passed;
       second_passed = second_passed;
       reports = reports;
@@ -181,19 +202,20 @@ module _ {A B D : Type 0} (p : ExtractSide A B D) (limit : ℕ) (first_passed : 
       merged = told;
       ran = λ tells. g.done tells (each_held reports ++ last) rests;
       why = why n g.counted (record { closed = refl; quiet = g.quiet ∙ rests.quiet });
+      quiet = quiet_flushed n merged quiet;
       unread = unread;
     }
-    ended_rests (Err fault) g reports last rests merged told why =
+    ended_rests (Err fault) g reports last rests merged blames quiet told why =
         let is : fault ≡ runs.DiskFault = g.kinds in
         subst (λ (e : RunFault). Extracted p limit (Err (Archive e))) (sym is)
-        (failed reports last now (subst (λ (e : RunFault). Merged reports last (Err (Archive e))) is told) (g.failed (each_held reports ++ last) rests))
+        (failed reports last now (quiet_failed merged blames quiet) (subst (λ (e : RunFault). Merged reports last (Err (Archive e))) is told) (g.failed (each_held reports ++ last) rests))
 
     -- the disk had failed before, and nothing more was done
-    ended_failed : (reports : List Report) (last : List Handed) → Fails p.disk limit (each_held reports ++ last) run p.disk_was disk → Merged reports last (Err (Archive runs.DiskFault)) → Ended (Err (Archive runs.DiskFault))
-    ended_failed reports last fails merged =
-        let (is, stays, still) = f.closed fails.failed in
+    ended_failed : AreStill p → (reports : List Report) (last : List Handed) → Fails p.disk limit (each_held reports ++ last) run p.disk_was disk → Merged reports last (Err (Archive runs.DiskFault)) → Ended (Err (Archive runs.DiskFault))
+    ended_failed still reports last fails merged =
+        let (is, stays, same) = f.closed fails.failed in
         subst (λ (r : Result ℕ RunFault). Extracted p limit (ended_by r (Err (Archive runs.DiskFault)))) (sym is)
-        (failed reports last run merged (subst (λ (x : D). Fails p.disk limit (each_held reports ++ last) run p.disk_was x) (sym still) fails))
+        (failed reports last run (inl still) merged (subst (λ (x : D). Fails p.disk limit (each_held reports ++ last) run p.disk_was x) (sym same) fails))
 
     -- ---- what was merged
 
@@ -226,50 +248,50 @@ module _ {A B D : Type 0} (p : ExtractSide A B D) (limit : ℕ) (first_passed : 
         counted_so reports n runs is = is ∙ runs.rests.counted ∙ ap (λ (rs : List Report). shown_count (length rs)) (held_reports reports)
 
         -- the archive turned the next one away
-        ended_away : (reports : List Report) (r : Report) (fault : LogFault) (why : RunFault) → TurnsAway p.disk limit (each_held reports) r run p.disk_was disk fault
+        ended_away : AreStill p → (reports : List Report) (r : Report) (fault : LogFault) (why : RunFault) → TurnsAway p.disk limit (each_held reports) r run p.disk_was disk fault
             → ((xs ys : List PmResult) → Left xs ys → (more : List Judged) × BeginWith (comes xs ys) reports more × IsNextOf (Judged.fits r) more)
             → (StopsAway p limit reports (Handed.refused r ∷ []) Close.flushed fault → Why p limit reports (Handed.refused r ∷ []) Close.flushed (Err (Archive why))) → Ended (Err (Archive why))
-        ended_away reports r fault why away told so =
-            ended_rests finish f reports (Handed.refused r ∷ []) away.runs.rests (Err (Archive why))
+        ended_away still reports r fault why away told so =
+            ended_rests finish f reports (Handed.refused r ∷ []) away.runs.rests (Err (Archive why)) tt still
             (merged_so reports (Handed.refused r ∷ []) (Err (Archive why)) (λ xs ys left. let (more, begin, next) = told xs ys left in (more, begin, (refl, next), tt)))
             (λ n is fl. so (record { r = r; handed = refl; flushed = fl; away = away.away }))
 
-        ended_archive : (reports : List Report) (r : Report) (fault : RunFault) → Stops p.disk limit (each_held reports) r run p.disk_was disk fault
+        ended_archive : AreStill p → (reports : List Report) (r : Report) (fault : RunFault) → Stops p.disk limit (each_held reports) r run p.disk_was disk fault
             → ((xs ys : List PmResult) → Left xs ys → (more : List Judged) × BeginWith (comes xs ys) reports more × IsNextOf (Judged.fits r) more) → Ended (Err (Archive fault))
-        ended_archive reports r (runs.Large bytes) stops told = ended_away reports r (logs.Large bytes) (runs.Large bytes) stops told (λ away. away)
-        ended_archive reports r (runs.NotLater stamp) stops told = ended_away reports r (logs.NotLater stamp) (runs.NotLater stamp) stops told (λ away. away)
-        ended_archive reports r (runs.Changed pmid) stops told = ended_away reports r (logs.Changed pmid) (runs.Changed pmid) stops told (λ away. away)
-        ended_archive reports r (runs.Full file bytes) stops told = ended_away reports r (logs.Full file bytes) (runs.Full file bytes) stops told (λ away. away)
-        ended_archive reports r runs.NoMemory (inl rests) told =
-            ended_rests finish f reports [] (subst (λ (hs : List Handed). Rests p.disk limit hs run p.disk_was disk) (sym (append-nil (each_held reports))) rests) (Err (Archive runs.NoMemory))
+        ended_archive still reports r (runs.Large bytes) stops told = ended_away still reports r (logs.Large bytes) (runs.Large bytes) stops told (λ away. away)
+        ended_archive still reports r (runs.NotLater stamp) stops told = ended_away still reports r (logs.NotLater stamp) (runs.NotLater stamp) stops told (λ away. away)
+        ended_archive still reports r (runs.Changed pmid) stops told = ended_away still reports r (logs.Changed pmid) (runs.Changed pmid) stops told (λ away. away)
+        ended_archive still reports r (runs.Full file bytes) stops told = ended_away still reports r (logs.Full file bytes) (runs.Full file bytes) stops told (λ away. away)
+        ended_archive still reports r runs.NoMemory (inl rests) told =
+            ended_rests finish f reports [] (subst (λ (hs : List Handed). Rests p.disk limit hs run p.disk_was disk) (sym (append-nil (each_held reports))) rests) (Err (Archive runs.NoMemory)) tt still
             (merged_so reports [] (Err (Archive runs.NoMemory)) (λ xs ys left. let (more, begin, next) = told xs ys left in (more, begin, tt, tt)))
             (λ n is fl. inr (record { handed = inl refl; flushed = fl }))
-        ended_archive reports r runs.NoMemory (inr rests) told =
-            ended_rests finish f reports (Handed.refused r ∷ []) rests (Err (Archive runs.NoMemory))
+        ended_archive still reports r runs.NoMemory (inr rests) told =
+            ended_rests finish f reports (Handed.refused r ∷ []) rests (Err (Archive runs.NoMemory)) tt still
             (merged_so reports (Handed.refused r ∷ []) (Err (Archive runs.NoMemory)) (λ xs ys left. let (more, begin, next) = told xs ys left in (more, begin, (refl, next), tt)))
             (λ n is fl. inr (record { handed = inr (r, refl); flushed = fl }))
-        ended_archive reports r runs.DiskFault (inl fails) told =
-            ended_failed reports [] (subst (λ (hs : List Handed). Fails p.disk limit hs run p.disk_was disk) (sym (append-nil (each_held reports))) fails) (λ first_tells second_tells.
+        ended_archive still reports r runs.DiskFault (inl fails) told =
+            ended_failed still reports [] (subst (λ (hs : List Handed). Fails p.disk limit hs run p.disk_was disk) (sym (append-nil (each_held reports))) fails) (λ first_tells second_tells.
             let b : Begun p Left comes = begun first_tells second_tells in
             let (more, begin, next) = told (samples_of b.first.items) (samples_of b.second.items) b.left in
             record { first = b.first; second = b.second; first_is = b.first_is; second_is = b.second_is; more = more; begin = b.all ∙ begin; next = tt; ends = tt })
-        ended_archive reports r runs.DiskFault (inr fails) told =
-            ended_failed reports (Handed.held r ∷ []) fails (λ first_tells second_tells.
+        ended_archive still reports r runs.DiskFault (inr fails) told =
+            ended_failed still reports (Handed.held r ∷ []) fails (λ first_tells second_tells.
             let b : Begun p Left comes = begun first_tells second_tells in
             let (more, begin, next) = told (samples_of b.first.items) (samples_of b.second.items) b.left in
             record { first = b.first; second = b.second; first_is = b.first_is; second_is = b.second_is; more = more; begin = b.all ∙ begin; next = (refl, next); ends = tt })
-        ended_archive reports r fault stops told = absurd stops
+        ended_archive still reports r fault stops told = absurd stops
 
-        pub ended : (merged : Result (Unit {0}) ExtractFault) → IfErr merged (BlamesSources p.first p.second p.first_was p.first_is p.second_was p.second_is) → LogsAll p.disk limit run p.disk_was disk Left comes merged → Ended merged
-        ended (Ok done) blames (reports, logged, told) =
-            ended_rests finish f reports [] (alone reports logged) (Ok done) (merged_so reports [] (Ok done) (λ xs ys left. ([], told xs ys left, tt, refl)))
+        pub ended : (merged : Result (Unit {0}) ExtractFault) → Blames merged → Quiet merged → LogsAll p.disk limit run p.disk_was disk Left comes merged → Ended merged
+        ended (Ok done) blames quiet (reports, logged, told) =
+            ended_rests finish f reports [] (alone reports logged) (Ok done) blames quiet (merged_so reports [] (Ok done) (λ xs ys left. ([], told xs ys left, tt, refl)))
             (λ n is fl. (counted_so reports n logged is, (refl, fl)))
-        ended (Err (Merge fault)) blames (reports, logged, told) =
-            ended_rests finish f reports [] (alone reports logged) (Err (Merge fault))
+        ended (Err (Merge fault)) blames quiet (reports, logged, told) =
+            ended_rests finish f reports [] (alone reports logged) (Err (Merge fault)) blames quiet
             (merged_so reports [] (Err (Merge fault)) (λ xs ys left. let (more, begin, misfit) = told xs ys left in (more, begin, tt, misfit)))
             (λ n is fl. (refl, fl))
-        ended (Err (Unread number fault)) blames (reports, logged, told) =
-            ended_rests finish f reports [] (alone reports logged) (Err (Unread number fault))
+        ended (Err (Unread number fault)) blames quiet (reports, logged, told) =
+            ended_rests finish f reports [] (alone reports logged) (Err (Unread number fault)) blames quiet
             (merged_so reports [] (Err (Unread number fault)) (λ xs ys left. let (more, begin) = told xs ys left in (more, begin, tt, tt)))
             (λ n is fl. (blames, (refl, fl)))
-        ended (Err (Archive fault)) blames (reports, r, stops, told) = ended_archive reports r fault stops told
+        ended (Err (Archive fault)) blames quiet (reports, r, stops, told) = ended_archive quiet reports r fault stops told

@@ -1,5 +1,5 @@
 -- How far a source is read.
-use Rattle.std.specs.Prelude.{◌≡◌, ℕ, ◌≤◌, Bool, true, false, nat_lt, if◌then◌else◌, List, [], ◌∷◌, length, take, drop, Option, Some, None}
+use Rattle.std.specs.Prelude.{◌≡◌, ℕ, ◌≤◌, Bool, false, nat_lt, if◌then◌else◌, List, [], ◌∷◌, length, take, drop, Option, Some, None}
 use Rattle.std.specs.List.{AllByRecursion}
 use Rattle.pcp_base.specs.Time.{Moment, microseconds}
 use Rattle.pcp_base.specs.declared.result.Item.{Item}
@@ -7,7 +7,7 @@ use Rattle.pcp_base.specs.declared.result.PmResult.{PmResult}
 use Rattle.pcp_base.specs.declared.result.ValueSet.{ValueSet}
 use Rattle.pcp_model.specs.Disk.{Files, contents_of}
 use Rattle.pcp_outside.specs.declared.disk.Disk.{Ghosts as DiskGhosts}
-use Rattle.archive_loading.specs.Loaded.{Loaded, IsOver}
+use Rattle.archive_loading.specs.Loaded.{IsOver}
 use Rattle.archive_reader.specs.declared.places.Place.{Place}
 use Rattle.archive_reader.specs.Walks.{AllFrom, volumes_from}
 use Rattle.archive_merge.specs.Merging.{IsNew, is_at, samples_of, sets_at, sets_of_both, sets_of_first, with_sets}

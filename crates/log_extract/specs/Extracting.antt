@@ -7,7 +7,6 @@ use Rattle.pcp_outside.specs.Devices.{LeavesOnly}
 use Rattle.pcp_outside.specs.declared.disk.Disk.{Ghosts as DiskGhosts}
 use Rattle.archive_check.specs.declared.fault.CheckFault.{CheckFault}
 use Rattle.archive_loading.specs.Looks.{Looks}
-use Rattle.archive_merge.specs.declared.fault.MergeFault.{MergeFault}
 use Rattle.logger_core.specs.declared.fault.LogFault.{LogFault}
 use Rattle.logger_core.specs.declared.fault.LogFault.TheVariants as logs
 use Rattle.logging_session.specs.Written.{Report}
@@ -19,7 +18,7 @@ use Rattle.logging_run.specs.Running.{IsTurnedAway}
 use Rattle.log_extract.specs.declared.fault.ExtractFault.{ExtractFault}
 use Rattle.log_extract.specs.declared.fault.ExtractFault.TheVariants.{Archive, Merge, Source as Unread}
 use Rattle.log_extract.specs.Judging.{Judged, judged}
-use Rattle.log_extract.specs.Logging.{BeginWith, BreaksOff, IsMisfit, IsNextOf}
+use Rattle.log_extract.specs.Logging.{AreQuiet, BeginWith, BreaksOff, IsMisfit, IsNextOf, OtherIsQuiet}
 use Rattle.log_extract.specs.Sources.{IsSource, IsTurnedBack, Source}
 
 -- two sources and an output, each before and after
@@ -57,6 +56,28 @@ module _ {A B D : Type 0} (p : ExtractSide A B D) where
     pub first : Looks p.first p.first_was p.first_is
     pub second : Looks p.second p.second_was p.second_is
 
+  -- ---- which calls of the sources' disks failed
+
+  abbrev pub AreStill : Type 0
+  AreStill = AreQuiet p.first p.second p.first_was p.first_is p.second_was p.second_is
+
+  abbrev pub OtherIsStill : ℕ → Type 0
+  OtherIsStill number = OtherIsQuiet p.first p.second p.first_was p.first_is p.second_was p.second_is number
+
+  -- the reading of a source broke off
+  pub record HasBrokenOff : Type 0 where
+    pub number : ℕ
+    pub fault : CheckFault
+    pub breaks : BreaksOff p.first p.second p.first_was p.first_is p.second_was p.second_is number fault
+    pub other : OtherIsStill number
+
+  -- None failed, but for a source that is named; or that isn't, since the output's disk failed behind it.
+  abbrev pub IsQuiet : Result ℕ ExtractFault → Type 0
+  IsQuiet (Ok count) = AreStill
+  IsQuiet (Err (Unread number fault)) = OtherIsStill number
+  IsQuiet (Err (Merge fault)) = AreStill
+  IsQuiet (Err (Archive fault)) = AreStill ⊎ ((fault ≡ runs.DiskFault) × HasBrokenOff)
+
   -- ---- before the output is touched
 
   -- A source isn't passed, the second only where the first was.
@@ -67,7 +88,7 @@ module _ {A B D : Type 0} (p : ExtractSide A B D) where
 
   abbrev pub IsRefused : Result ℕ ExtractFault → Type 0
   IsRefused (Ok count) = ⊥
-  IsRefused (Err (Unread number fault)) = IsUnread number fault × (p.disk_is ≡ p.disk_was)
+  IsRefused (Err (Unread number fault)) = IsUnread number fault × (p.disk_is ≡ p.disk_was) × OtherIsStill number
   IsRefused (Err (Merge fault)) = ⊥
   IsRefused (Err (Archive fault)) = ⊥
 
@@ -158,6 +179,7 @@ module _ {A B D : Type 0} (p : ExtractSide A B D) where
     pub merged : p.first.tells → p.second.tells → HasMerged reports last result
     pub ran : p.disk.tells → Ran p.disk limit (each_held reports ++ last) p.disk_was p.disk_is close
     pub why : Why limit reports last close result
+    pub quiet : IsQuiet result
     -- where the output's files aren't readable nothing is written
     pub unread : p.disk.tells → (Readable (contents_of (p.disk.held p.disk_was)) → ⊥) → LeavesOnly p.disk.moment p.disk.left_since p.disk_was p.disk_is (CrashImage (p.disk.held p.disk_was))
 

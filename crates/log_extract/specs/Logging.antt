@@ -5,7 +5,6 @@ use Rattle.pcp_model.specs.Disk.{contents_of}
 use Rattle.pcp_outside.specs.declared.disk.Disk.{Ghosts as DiskGhosts}
 use Rattle.logging_session.specs.Keeping.{Carried}
 use Rattle.logging_session.specs.Written.{Report}
-use Rattle.logging_run.specs.declared.fault.RunFault.{RunFault}
 use Rattle.logging_run.specs.Handing.{each_held}
 use Rattle.logging_run.specs.Running.{Runs, Stops}
 use Rattle.archive_check.specs.declared.fault.CheckFault.{CheckFault}
@@ -76,6 +75,21 @@ abbrev pub BlamesSources : {A B : Type 0} → DiskGhosts A → DiskGhosts B → 
 BlamesSources a b first_was first_is second_was second_is (Source number fault) = BreaksOff a b first_was first_is second_was second_is number fault
 BlamesSources a b first_was first_is second_was second_is (Merge fault) = Unit {0}
 BlamesSources a b first_was first_is second_was second_is (Archive fault) = Unit {0}
+
+-- no call of a source's disk failed
+pub record AreQuiet {A B : Type 0} (a : DiskGhosts A) (b : DiskGhosts B) (first_was first_is : A) (second_was second_is : B) : Type 0 where
+  pub first : a.faults first_is ≡ a.faults first_was
+  pub second : b.faults second_is ≡ b.faults second_was
+
+-- none of the other source's, where the reading of one broke off
+abbrev pub OtherIsQuiet : {A B : Type 0} → DiskGhosts A → DiskGhosts B → A → A → B → B → ℕ → Type 0
+OtherIsQuiet a b first_was first_is second_was second_is number = ((number ≡ 1) × (b.faults second_is ≡ b.faults second_was)) ⊎ ((number ≡ 2) × (a.faults first_is ≡ a.faults first_was))
+
+-- none but of the source that is named, where one is
+abbrev pub QuietBut : {A B : Type 0} → DiskGhosts A → DiskGhosts B → A → A → B → B → ExtractFault → Type 0
+QuietBut a b first_was first_is second_was second_is (Source number fault) = OtherIsQuiet a b first_was first_is second_was second_is number
+QuietBut a b first_was first_is second_was second_is (Merge fault) = AreQuiet a b first_was first_is second_was second_is
+QuietBut a b first_was first_is second_was second_is (Archive fault) = AreQuiet a b first_was first_is second_was second_is
 
 -- no other comes
 abbrev pub IsOfSource : ExtractFault → Type 0

@@ -11,4 +11,4 @@ mod taking;
 
 pub use extracting::extract_all;
 pub use fault::ExtractFault;
-pub use laws::{all_is_merged, reports_are_merged};
+pub use laws::{all_is_merged, next_is_judged, reports_are_merged};

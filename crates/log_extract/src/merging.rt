@@ -8,7 +8,7 @@ ghost use Rattle.logging_session.specs.Written.{Report};
 ghost use Rattle.logging_run.specs.Running.{Runs};
 ghost use Rattle.log_extract.specs.Cursors.{AreParted, IsReady, earliest};
 ghost use Rattle.log_extract.specs.Judging.{judge_parts};
-ghost use Rattle.log_extract.specs.Logging.{AreLeft, BlamesSources, HasLogged, IsOfItem, LogsAll, LogsNext, judged_left};
+ghost use Rattle.log_extract.specs.Logging.{AreLeft, AreQuiet, BlamesSources, HasLogged, IsOfItem, LogsAll, LogsNext, QuietBut, judged_left};
 
 use crate::cursor::Cursor;
 use crate::fault::ExtractFault;
@@ -101,6 +101,8 @@ pub(crate) fn merge_all<A: Disk, B: Disk, D: Disk>(
     ensures broken { IfErr result (BlamesSources A.Disk B.Disk first_disk.old first_disk.new second_disk.old second_disk.new) }
     ensures first_looks { Looks A.Disk first_disk.old first_disk.new }
     ensures second_looks { Looks B.Disk second_disk.old second_disk.new }
+    ensures quiet { OnOk result (AreQuiet A.Disk B.Disk first_disk.old first_disk.new second_disk.old second_disk.new) }
+    ensures others_quiet { IfErr result (QuietBut A.Disk B.Disk first_disk.old first_disk.new second_disk.old second_disk.new) }
 {
     for _ in 0..u64::MAX {
         let stamp = match earliest(first.stamp(), second.stamp()) {

@@ -7,7 +7,7 @@ ghost use Rattle.archive_loading.specs.Looks.{Looks};
 ghost use Rattle.archive_merge.specs.Merging.{with_sets};
 ghost use Rattle.archive_merge.specs.Order.{NoneBefore, Rises};
 ghost use Rattle.log_extract.specs.Cursors.{AreParted, IsReady, Leaves, TakesBoth, TakesStamp};
-ghost use Rattle.log_extract.specs.Logging.{AreLeft, BlamesSources, IsOfSource};
+ghost use Rattle.log_extract.specs.Logging.{AreLeft, BlamesSources, IsOfSource, QuietBut};
 ghost use Rattle.log_extract.specs.Sources.{IsBroken};
 ghost use Rattle.log_extract.specs.declared.fault.ExtractFault.TheVariants.{Source as Unread};
 ghost use Rattle.archive_check.specs.declared.fault.CheckFault.TheVariants.{Reader as Reading};
@@ -84,6 +84,7 @@ pub(crate) fn take_both<A: Disk, B: Disk>(
     ensures second_looks { Looks B.Disk second_disk.old second_disk.new }
     ensures first_quiet { OnOk result (A.faults first_disk.new ≡ A.faults first_disk.old) }
     ensures second_quiet { OnOk result (B.faults second_disk.new ≡ B.faults second_disk.old) }
+    ensures others_quiet { IfErr result (QuietBut A.Disk B.Disk first_disk.old first_disk.new second_disk.old second_disk.new) }
 {
     let ours = match take_stamp(alloc, first_disk, first, t, StampSets::empty(alloc)) {
         Ok(ours) => ours,

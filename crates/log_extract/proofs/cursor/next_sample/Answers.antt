@@ -1,18 +1,16 @@
 -- The next record is a result's, or a mark's that is passed over, or there is none.
-use Rattle.std.proofs.Common.{◌≡◌, ℕ, List, ◌∙◌, refl, sym, ap, subst, rules, Option, Some, None}
+use Rattle.std.proofs.Common.{◌≡◌, ℕ, List, ◌∙◌, refl, sym, subst, rules, Some}
 use Rattle.pcp_base.specs.declared.result.Item.{Item}
-use Rattle.pcp_base.specs.declared.result.Item.TheVariants.{Sample, Mark}
+use Rattle.pcp_base.specs.declared.result.Item.TheVariants.{Sample}
 use Rattle.pcp_base.specs.declared.result.PmResult.{PmResult}
 use Rattle.pcp_model.specs.Disk.{Files, Holdings, contents_of}
 use Rattle.pcp_outside.specs.Causes.{Rose}
 use Rattle.archive_loading.specs.Loaded.{IsOver, Loaded}
 use Rattle.archive_loading.proofs.Looking.{looks_none, looks_on}
-use Rattle.archive_reader.specs.declared.places.Place.{Place}
 use Rattle.archive_reader.specs.Nexts.{IsNext, IsNextFault}
-use Rattle.log_extract.specs.Cursors.{StandFrom}
 use Rattle.log_extract.specs.Sources.{IsBroken}
 use Rattle.log_extract.proofs.Opening.{wanting}
-use Rattle.log_extract.proofs.Reading.{Passed, lack_follows, mark_follows, none_follows, sample_follows}
+use Rattle.log_extract.proofs.Reading.{lack_follows, mark_follows, none_follows, sample_follows}
 use Rattle.log_extract.proofs.cursor.next_sample.Goals as goal
 
 pub loop-init : goal.loop-init

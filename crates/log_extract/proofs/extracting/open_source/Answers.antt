@@ -1,5 +1,5 @@
 -- A source is checked, loaded and opened, or turned back.
-use Rattle.std.proofs.Common.{◌≡◌, ◌∙◌, refl, sym, subst, rules}
+use Rattle.std.proofs.Common.{◌∙◌, sym, subst, rules}
 use Rattle.pcp_model.specs.Disk.{Holdings, contents_of}
 use Rattle.archive_check.specs.declared.fault.CheckFault.TheVariants.{Reader}
 use Rattle.archive_loading.specs.Loaded.{IsOver}

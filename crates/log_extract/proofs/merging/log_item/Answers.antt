@@ -1,5 +1,5 @@
 -- The item is judged, and logged where it fits.
-use Rattle.std.proofs.Common.{◌≡◌, ◌⊎◌, ◌≤◌, ◌==◌, false, arith, inl, refl, sym, ap, subst, rules, ◌∙◌, Option, Some, None, take, drop, length, List, Err}
+use Rattle.std.proofs.Common.{◌≡◌, ◌⊎◌, ◌≤◌, ◌==◌, false, arith, inl, refl, sym, subst, rules, ◌∙◌, Some, None, take, drop, length, List, Err}
 use Rattle.std.specs.List.{AllByRecursion}
 use Rattle.std.proofs.lemmas.Bool.{eqb-false}
 use Rattle.pcp_base.specs.Results.{Fits}
@@ -11,7 +11,7 @@ use Rattle.archive_merge.specs.Facts.{facts_between, misfit_between}
 use Rattle.logging_run.specs.Handing.{each_held}
 use Rattle.logging_session.specs.Written.{Report}
 use Rattle.log_extract.specs.declared.fault.ExtractFault.TheVariants.{Archive, Merge}
-use Rattle.log_extract.specs.Judging.{Judged, judge_parts}
+use Rattle.log_extract.specs.Judging.{judge_parts}
 use Rattle.log_extract.specs.Logging.{IsOfItem, LogsNext}
 use Rattle.log_extract.proofs.Items.{fits_so, logged_next, misfit_so, told_enough}
 use Rattle.log_extract.proofs.merging.log_item.Goals as goal

@@ -3,13 +3,11 @@ use Rattle.std.proofs.Common.{◌≡◌, ◌∙◌, List, refl, sym, ap, subst, 
 use Rattle.pcp_base.specs.Time.{Moment}
 use Rattle.pcp_model.specs.declared.records.MetaRecord.{MetaRecord}
 use Rattle.archive_loading.proofs.Looking.{looks_none, looks_on}
-use Rattle.archive_merge.specs.declared.fault.MergeFault.TheVariants.{NoMemory}
-use Rattle.log_extract.specs.declared.fault.ExtractFault.TheVariants.{Merge}
 use Rattle.log_extract.specs.Cursors.{earliest, next_stamp}
 use Rattle.log_extract.specs.Judging.{Judged, judge_parts}
-use Rattle.log_extract.specs.Logging.{BlamesSources, LogsNext}
+use Rattle.log_extract.specs.Logging.{AreQuiet, LogsNext}
 use Rattle.log_extract.proofs.Items.{MergedSoFar, all_merged, none_merged, one_merged, stopped_at, stopped_here, wanting_here}
-use Rattle.log_extract.proofs.Opening.{blames_from, blames_none}
+use Rattle.log_extract.proofs.Opening.{blames_from, blames_none, quiet_from, quiet_of_item}
 use Rattle.log_extract.proofs.merging.merge_all.Goals as goal
 
 pub loop-init : goal.loop-init
@@ -30,6 +28,9 @@ returns-in-None-clause-logs g c = λ limit start runs.
     sym (c.earliest.ensures ∙ ap (λ (o : Option Moment). earliest o c.stamp-in-loop.result) c.stamp.ensures ∙ ap (earliest (next_stamp c.loop.first.next)) c.stamp-in-loop.ensures) ∙ c.in-None.is in
     all_merged g.A.Disk g.B.Disk g.D.Disk c.args.first_disk.now c.args.second_disk.now c.args.first.now c.args.second.now limit start c.loop.first_disk c.loop.second_disk c.loop.first c.loop.second c.loop.run c.loop.disk (c.loop.invariant.far limit start runs) none
 
+pub returns-in-None-clause-quiet : goal.returns-in-None-clause-quiet
+returns-in-None-clause-quiet g c = record { first = c.loop.invariant.first_quiet; second = c.loop.invariant.second_quiet }
+
 pub returns-in_err-sets-clause-logs : goal.returns-in_err-sets-clause-logs
 returns-in_err-sets-clause-logs g c = λ limit start runs.
     let why =
@@ -41,6 +42,12 @@ pub returns-in_err-sets-clause-broken : goal.returns-in_err-sets-clause-broken
 returns-in_err-sets-clause-broken g c =
     let why =
     blames_from g.A.Disk g.B.Disk c.args.first_disk.now c.loop.first_disk c.take_both.new.first_disk c.args.second_disk.now c.loop.second_disk c.take_both.new.second_disk c.in_err-sets.field-0.0 c.loop.invariant.first_quiet c.loop.invariant.second_quiet c.in_err-sets.ensures.broken in
+    search (rules, why)
+
+pub returns-in_err-sets-clause-others_quiet : goal.returns-in_err-sets-clause-others_quiet
+returns-in_err-sets-clause-others_quiet g c =
+    let why =
+    quiet_from g.A.Disk g.B.Disk c.args.first_disk.now c.loop.first_disk c.take_both.new.first_disk c.args.second_disk.now c.loop.second_disk c.take_both.new.second_disk c.in_err-sets.field-0.0 c.loop.invariant.first_quiet c.loop.invariant.second_quiet c.in_err-sets.ensures.others_quiet in
     search (rules, why)
 
 pub returns-in_err-sets-clause-first_looks : goal.returns-in_err-sets-clause-first_looks
@@ -66,6 +73,13 @@ returns-in_err-log_item-clause-logs g c = λ limit start runs.
 pub returns-in_err-log_item-clause-broken : goal.returns-in_err-log_item-clause-broken
 returns-in_err-log_item-clause-broken g c =
     let why = blames_none g.A.Disk g.B.Disk c.args.first_disk.now c.take_both.new.first_disk c.args.second_disk.now c.take_both.new.second_disk c.in_err-log_item.field-0.0 c.in_err-log_item.ensures.kinds in
+    search (rules, why)
+
+pub returns-in_err-log_item-clause-others_quiet : goal.returns-in_err-log_item-clause-others_quiet
+returns-in_err-log_item-clause-others_quiet g c =
+    let quiet : AreQuiet g.A.Disk g.B.Disk c.args.first_disk.now c.take_both.new.first_disk c.args.second_disk.now c.take_both.new.second_disk =
+    record { first = c.in_ok-sets.ensures.first_quiet ∙ c.loop.invariant.first_quiet; second = c.in_ok-sets.ensures.second_quiet ∙ c.loop.invariant.second_quiet } in
+    let why = quiet_of_item g.A.Disk g.B.Disk c.args.first_disk.now c.take_both.new.first_disk c.args.second_disk.now c.take_both.new.second_disk c.in_err-log_item.field-0.0 c.in_err-log_item.ensures.kinds quiet in
     search (rules, why)
 
 pub returns-in_err-log_item-clause-first_looks : goal.returns-in_err-log_item-clause-first_looks
@@ -98,3 +112,6 @@ loop-preserved g c = record {
 pub returns-clause-logs : goal.returns-clause-logs
 returns-clause-logs g c = λ limit start runs.
     wanting_here g.A.Disk g.B.Disk g.D.Disk c.args.first_disk.now c.args.second_disk.now c.args.first.now c.args.second.now limit start c.loop.first_disk c.loop.second_disk c.loop.first c.loop.second c.loop.run c.loop.disk (c.loop.invariant.far limit start runs)
+
+pub returns-clause-others_quiet : goal.returns-clause-others_quiet
+returns-clause-others_quiet g c = record { first = c.loop.invariant.first_quiet; second = c.loop.invariant.second_quiet }

@@ -1,12 +1,12 @@
 -- The sets of both are taken, or the reading of one breaks off.
-use Rattle.std.proofs.Common.{◌≡◌, inl, inr, List, [], refl, sym, ap, subst, ◌∙◌, rules}
+use Rattle.std.proofs.Common.{inl, inr, List, [], refl, sym, subst, ◌∙◌, rules}
 use Rattle.pcp_base.specs.declared.result.ValueSet.{ValueSet}
 use Rattle.pcp_model.specs.Disk.{Files, contents_of}
 use Rattle.archive_check.specs.declared.fault.CheckFault.TheVariants.{Reader}
 use Rattle.archive_loading.proofs.Looking.{looks_none}
 use Rattle.log_extract.specs.declared.fault.ExtractFault.TheVariants.{Source}
 use Rattle.log_extract.specs.Cursors.{TakesStamp}
-use Rattle.log_extract.specs.Logging.{BlamesSources, IsOfSource}
+use Rattle.log_extract.specs.Logging.{BlamesSources, IsOfSource, QuietBut}
 use Rattle.log_extract.proofs.Stamps.{parted_so, took_both}
 use Rattle.log_extract.proofs.taking.take_both.Goals as goal
 
@@ -28,6 +28,15 @@ returns-in-Err-take_stamp-clause-broken g c =
 pub returns-in-Err-take_stamp-clause-kinds : goal.returns-in-Err-take_stamp-clause-kinds
 returns-in-Err-take_stamp-clause-kinds g c =
     let why : IsOfSource (Source 2 (Reader c.in-Err-take_stamp.fault)) = tt in
+    search (rules, why)
+
+pub returns-in-Err-clause-others_quiet : goal.returns-in-Err-clause-others_quiet
+returns-in-Err-clause-others_quiet g c =
+    subst (QuietBut g.A.Disk g.B.Disk c.args.first_disk.now c.take_stamp.new.disk c.args.second_disk.now c.args.second_disk.now) (sym c.source_fault.ensures) (inl (refl, refl))
+
+pub returns-in-Err-take_stamp-clause-others_quiet : goal.returns-in-Err-take_stamp-clause-others_quiet
+returns-in-Err-take_stamp-clause-others_quiet g c =
+    let why : QuietBut g.A.Disk g.B.Disk c.args.first_disk.now c.take_stamp.new.disk c.args.second_disk.now c.take_stamp-2.new.disk (Source 2 (Reader c.in-Err-take_stamp.fault)) = inr (refl, c.in-Ok.ensures.quiet) in
     search (rules, why)
 
 pub returns-in-Ok-take_stamp-clause-parted : goal.returns-in-Ok-take_stamp-clause-parted

@@ -1,7 +1,6 @@
 -- Result after result of the stamp is taken.
-use Rattle.std.proofs.Common.{◌≡◌, ℕ, List, [], ◌∷◌, ◌++◌, ◌∙◌, refl, sym, ap, subst, rules}
+use Rattle.std.proofs.Common.{List, [], ◌∷◌, ◌++◌, ◌∙◌, refl, sym, ap, subst, rules}
 use Rattle.std.proofs.lemmas.List.Sums.{fold-append}
-use Rattle.pcp_base.specs.declared.result.PmResult.{PmResult}
 use Rattle.pcp_base.specs.declared.result.ValueSet.{ValueSet}
 use Rattle.pcp_model.specs.Disk.{Files, Holdings, contents_of}
 use Rattle.archive_loading.proofs.Looking.{looks_none, looks_on}

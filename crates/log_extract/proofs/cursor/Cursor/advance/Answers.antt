@@ -1,6 +1,5 @@
 -- The result behind is found, or there is none.
-use Rattle.std.proofs.Common.{◌≡◌, ℕ, List, ◌∷◌, ◌∙◌, refl, sym, subst, rules, Option, Some, None}
-use Rattle.pcp_base.specs.declared.result.PmResult.{PmResult}
+use Rattle.std.proofs.Common.{◌≡◌, ℕ, List, ◌∷◌, refl, sym, subst, Some, None}
 use Rattle.pcp_model.specs.Disk.{Files, Holdings, contents_of}
 use Rattle.archive_loading.proofs.Looking.{looks_none}
 use Rattle.log_extract.specs.declared.cursor.Cursor.{Cursor}

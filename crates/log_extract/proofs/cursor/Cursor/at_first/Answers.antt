@@ -1,5 +1,5 @@
 -- The first result is found, or there is none.
-use Rattle.std.proofs.Common.{◌≡◌, ℕ, List, ◌∙◌, refl, sym, subst, Option, Some, None}
+use Rattle.std.proofs.Common.{ℕ, List, refl, subst, Some, None}
 use Rattle.pcp_model.specs.Disk.{Files, contents_of}
 use Rattle.log_extract.specs.Cursors.{IsNextSample}
 use Rattle.log_extract.proofs.Stamps.{stands_now, start_stands}
