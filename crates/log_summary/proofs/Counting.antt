@@ -1,5 +1,5 @@
 -- Values counted one behind another.
-use Rattle.std.proofs.Common.{◌≡◌, ℕ, ℤ, List, [], ◌∷◌, ◌++◌, Option, Some, None, refl, ap, ◌∙◌, fold}
+use Rattle.std.proofs.Common.{◌≡◌, ℕ, ℤ, List, [], ◌++◌, Option, Some, None, refl, fold}
 use Rattle.std.proofs.lemmas.List.Sums.{fold-append}
 use Rattle.pcp_base.specs.Time.{Moment}
 use Rattle.log_summary.specs.Tables.{Rows, counted}

@@ -3,7 +3,7 @@ use Rattle.std.proofs.Common.{◌≡◌, ℕ, ◌+◌, ◌-◌, ◌^◌, ℤ, �
 use Rattle.std.specs.Int.{w128, int_min, int_max, int_wrap, cast_signed, cast_unsigned}
 use Rattle.std.proofs.lemmas.Int.{ints, int_wrap-add_left, int_wrap-add_right, clamps, to_z-of_z}
 use Rattle.log_summary.specs.declared.tally.Tally.{Tally}
-use Rattle.log_summary.specs.Tallies.{single, joined}
+use Rattle.log_summary.specs.Tallies.{joined}
 
 -- a choice of two numbers in 128 bits
 pub chosen : (f : ℤ → ℤ → ℤ) (r a b : ℤ) → FitsSigned w128 r → FitsSigned w128 a → FitsSigned w128 b

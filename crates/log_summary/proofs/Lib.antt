@@ -1,9 +1,13 @@
+pub mod Ascending
 pub mod Counting
 pub mod Joining
 pub mod Lining
+pub mod Listing
 pub mod Merging
 pub mod Naming
+pub mod Once
 pub mod Placing
+pub mod Printing
 pub mod Rounds
 pub mod Tabled
 pub mod Telling

@@ -117,11 +117,11 @@ module _ {K T : Type 0} (eq : K → K → Bool) (exact : (x y : K) → eq x y �
       by false p rest = rest p ∙ ap (λ l. fold puts l us) (commute s g e p is)
 
   -- no two rows have one key
-  abbrev Differ : List (K × T) → Type 0
+  abbrev pub Differ : List (K × T) → Type 0
   Differ [] = Unit {0}
   Differ (f ∷ rows) = (lookup (eq f.0) rows ≡ None) × Differ rows
 
-  differ_after : (u : List (K × T)) (e : K × T) → Differ u → Differ (puts u e)
+  pub differ_after : (u : List (K × T)) (e : K × T) → Differ u → Differ (puts u e)
   differ_after [] e d = (refl, tt)
   differ_after (f ∷ u) e d = by (eq e.0 f.0) refl (differ_after u e d.1)
     where

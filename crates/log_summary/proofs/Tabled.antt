@@ -1,12 +1,11 @@
 -- The table of two lists of values, one behind the other, is the table of the one with that of the other behind it.
-use Rattle.std.proofs.Common.{◌≡◌, ℕ, ℤ, Bool, true, false, ◌&&◌, nat_eq, List, [], ◌∷◌, ◌++◌, refl, sym, ap, ◌∙◌, fold, map, true≢false}
+use Rattle.std.proofs.Common.{◌≡◌, ℤ, Bool, true, false, ◌&&◌, nat_eq, List, [], ◌∷◌, ◌++◌, refl, sym, ap, ◌∙◌, fold, map, true≢false}
 use Rattle.std.proofs.lemmas.Bool.{eqb-true, eq-eqb}
 use Rattle.std.proofs.lemmas.Bool.Decides.{Decides-int_eq}
 use Rattle.std.proofs.lemmas.List.Sums.{fold-append}
 use Rattle.std.specs.Ordering.{int_eq}
-use Rattle.log_summary.specs.declared.tally.Tally.{Tally}
 use Rattle.log_summary.specs.Tallies.{joined}
-use Rattle.log_summary.specs.Tables.{Key, Rows, Row, same_key, row_of, put, counted, merged, table_of}
+use Rattle.log_summary.specs.Tables.{Key, Rows, same_key, row_of, put, counted, merged, table_of}
 use Rattle.log_summary.specs.Values.{Value}
 use Rattle.log_summary.proofs.Joining.{joined_assoc}
 use Rattle.log_summary.proofs.Merging.{all_more}

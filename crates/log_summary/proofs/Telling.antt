@@ -1,5 +1,5 @@
 -- What a table tells of a metric's instance is what its values come to, all together.
-use Rattle.std.proofs.Common.{◌≡◌, ℕ, ◌+◌, ◌-◌, ◌^◌, ◌≤◌, ℤ, ◌+ℤ◌, min, Bool, true, false, cond, filter, List, [], ◌∷◌, Option, Some, None, length, map, fold, refl, sym, ap, ◌∙◌, arith}
+use Rattle.std.proofs.Common.{◌≡◌, ◌+◌, ◌-◌, ◌^◌, ◌≤◌, ℤ, ◌+ℤ◌, min, Bool, true, false, cond, List, [], ◌∷◌, Option, Some, None, length, map, fold, refl, sym, ap, ◌∙◌, arith}
 use Rattle.std.specs.Int.{w128, int_min, int_max, int_wrap}
 use Rattle.std.proofs.lemmas.Int.{int_wrap-add_left, int_wrap-add_right}
 use Rattle.std.specs.Map.{lookup}

@@ -1,24 +1,22 @@
 -- Records of one volume, one behind another.
-use Rattle.std.proofs.Common.{◌≡◌, ◌≢◌, inl, inr, ⊎_elim, ◌⊎◌, ℕ, ◌+◌, ◌<◌, ◌≤◌, Bool, true, false, ◌||◌, nat_eq, List, [], ◌∷◌, ◌++◌, length, drop, fold, Option, Some, None, Result, Ok, Err, refl, sym, ap, ◌∙◌, subst, true≢false, eq-eqb, arith, append_assoc}
-use Rattle.std.specs.Prelude.{if◌then◌else◌, IfOk}
+use Rattle.std.proofs.Common.{◌≡◌, inl, inr, ℕ, ◌<◌, ◌≤◌, Bool, true, false, ◌||◌, nat_eq, List, [], ◌∷◌, ◌++◌, length, drop, fold, refl, sym, ap, ◌∙◌, subst, true≢false, eq-eqb, arith, append_assoc}
+use Rattle.std.specs.Prelude.{if◌then◌else◌}
 use Rattle.std.proofs.lemmas.List.{length-drop, append-nil}
 use Rattle.std.proofs.lemmas.List.Sums.{fold-append}
 use Rattle.std.proofs.lemmas.Bool.{eqb-true}
-use Rattle.std.specs.Int.{w32, from_be_bytes}
-use Rattle.pcp_base.specs.Fields.{number_at}
 use Rattle.pcp_base.specs.Time.{Moment}
 use Rattle.pcp_base.specs.declared.result.Item.{Item}
 use Rattle.pcp_model.specs.declared.records.MetaRecord.{MetaRecord}
 use Rattle.pcp_model.specs.Frame.{IsTorn}
 use Rattle.archive_frame.specs.declared.fault.FrameFault.{FrameFault}
 use Rattle.archive_frame.specs.declared.fault.FrameFault.TheVariants.{Torn, Size, Lengths, Label, NoMemory}
-use Rattle.archive_frame.specs.Steps.{Stands, IsSize, IsForwardFault}
+use Rattle.archive_frame.specs.Steps.{Stands, IsForwardFault}
 use Rattle.archive_frame.proofs.Records.{Ends, stood}
 use Rattle.archive_loading.specs.Standing.{ItemStands, NoItemStands}
 use Rattle.archive_reader.specs.Searches.{between, is_before, is_after}
-use Rattle.log_summary.specs.Tables.{Rows, counted, table_of}
+use Rattle.log_summary.specs.Tables.{Rows, counted}
 use Rattle.log_summary.specs.Values.{Value, item_values, values_of}
-use Rattle.log_summary.specs.Volumes.{is_torn, table_between, StandUpTo, EndsAt, BreaksAt, IsCounted, IsBroken}
+use Rattle.log_summary.specs.Volumes.{is_torn, table_between, StandUpTo, IsCounted, IsBroken}
 
 -- ---- one step
 

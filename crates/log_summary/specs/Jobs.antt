@@ -1,5 +1,5 @@
 -- Volumes that workers count, and what they answer.
-use Rattle.std.specs.Prelude.{◌≡◌, ℕ, Bool, true, false, List, [], ◌∷◌, length, Result, Ok, Err}
+use Rattle.std.specs.Prelude.{◌≡◌, ℕ, ◌+◌, Bool, true, false, List, [], ◌∷◌, length, Result, Ok, Err}
 use Rattle.pcp_base.specs.Time.{Moment}
 use Rattle.pcp_base.specs.declared.file.FileId.TheVariants.{Volume}
 use Rattle.pcp_model.specs.declared.records.MetaRecord.{MetaRecord}
@@ -13,18 +13,19 @@ abbrev pub is_empty : {A : Type 0} → List A → Bool
 is_empty [] = true
 is_empty (x ∷ xs) = false
 
--- the job is this volume, behind which these others stand
-pub record IsJob (files : Files) (v : ℕ × ℕ) (behind : List (ℕ × ℕ)) (j : Job) : Type 0 where
+-- the job is this worker's, and this volume, behind which these others stand
+pub record IsJob (files : Files) (worker : ℕ) (v : ℕ × ℕ) (behind : List (ℕ × ℕ)) (j : Job) : Type 0 where
+  pub worker_is : j.worker ≡ worker
   pub number : j.number ≡ v.0
   pub bytes : j.bytes ≡ files (Volume v.0)
   pub long : v.1 ≡ length (files (Volume v.0))
   pub last : j.is_last ≡ is_empty behind
 
--- the jobs are the first of these volumes, one after another, and the rest is left
-abbrev pub AreJobs : Files → List (ℕ × ℕ) → List Job → List (ℕ × ℕ) → Type 0
-AreJobs files vs [] rest = rest ≡ vs
-AreJobs files [] (j ∷ js) rest = ⊥
-AreJobs files (v ∷ vs) (j ∷ js) rest = IsJob files v vs j × AreJobs files vs js rest
+-- the jobs are the first of these volumes, one after another, each the next worker's, and the rest is left
+abbrev pub AreJobs : Files → ℕ → List (ℕ × ℕ) → List Job → List (ℕ × ℕ) → Type 0
+AreJobs files worker vs [] rest = rest ≡ vs
+AreJobs files worker [] (j ∷ js) rest = ⊥
+AreJobs files worker (v ∷ vs) (j ∷ js) rest = IsJob files worker v vs j × AreJobs files (worker + 1) vs js rest
 
 -- what is counted of a job
 abbrev pub IsCount : List MetaRecord → Moment → Moment → Job → Result Rows ReaderFault → Type 0

@@ -1,6 +1,6 @@
 -- Which number a value is, by the type code of its metric's description, if it has one: codes 0 and 1 in their set, 2 and 3 in
 -- a block of 8 bytes. A value of another storage or length is none.
-use Rattle.std.specs.Prelude.{ℕ, ℤ, pos, ◌==◌, if◌then◌else◌, List, length, Option, Some, None, option_map}
+use Rattle.std.specs.Prelude.{ℕ, ℤ, pos, neg_ℤ, ◌≤ℤ◌, ◌==◌, if◌then◌else◌, List, length, Option, Some, None}
 use Rattle.std.specs.Int.{w32, w64, cast_signed, from_be_bytes}
 
 -- a value of 32 bits in its set
@@ -24,3 +24,7 @@ coded_or_none code (Some n) = coded_number code n
 -- a value in a block
 abbrev pub block_number : Option ℕ → List ℕ → Option ℤ
 block_number code bytes = coded_or_none code (number_in bytes)
+
+-- a number of 64 bits, with its sign or without one
+abbrev pub IsLong : ℤ → Type 0
+IsLong n = (neg_ℤ (pos 9223372036854775808) ≤ℤ n) × (n ≤ℤ pos 18446744073709551615)

@@ -41,6 +41,6 @@ pub record IsSummary (files : Files) (from to : Moment) (text : List ℕ) : Type
   pub read : IsReadAs files loaded.records items
   pub is : text ≡ summary_text loaded.records from to items
 
--- the files aren't loaded, or a record of a volume is no item's
+-- a file stands wrapped; or none does, and the files aren't loaded or a record of a volume is no item's
 abbrev pub IsSummaryFault : Option FileId → Files → ReaderFault → Type 0
-IsSummaryFault wrapped files e = IsLoadFault wrapped files e ⊎ ((r : Loaded) × IsOver files r × IsWholeFault files r.volumes e)
+IsSummaryFault wrapped files e = IsLoadFault wrapped files e ⊎ ((wrapped ≡ None) × (r : Loaded) × IsOver files r × IsWholeFault files r.volumes e)

@@ -1,5 +1,5 @@
 -- What numbers come to: how many, the least, the greatest, their sum, and the moment of the last.
-use Rattle.std.specs.Prelude.{ℕ, ℤ, ◌+◌, ◌-◌, ◌^◌, ◌+ℤ◌, min}
+use Rattle.std.specs.Prelude.{ℤ, ◌+◌, ◌-◌, ◌^◌, ◌+ℤ◌, min}
 use Rattle.std.specs.Int.{w128, int_min, int_max, int_wrap}
 use Rattle.pcp_base.specs.Time.{Moment}
 use Rattle.log_summary.specs.declared.tally.Tally.{Tally}

@@ -1,5 +1,5 @@
 //! Volumes that workers count beside each other.
-ghost use Rattle.std.specs.Prelude.{◌≡◌, ◌+◌, ◌<◌, ◌≤◌, ◌⊎◌, [], ◌∷◌, ◌++◌, length, take, drop, vec_len, IfOk, IfErr, OnOk};
+ghost use Rattle.std.specs.Prelude.{◌≡◌, ◌+◌, ◌-◌, ◌<◌, ◌≤◌, ◌⊎◌, [], ◌∷◌, ◌++◌, length, min, take, drop, vec_len, IfOk, IfErr, OnOk};
 ghost use Rattle.std.specs.List.{AllByRecursion};
 ghost use Rattle.pcp_base.specs.declared.file.FileId.TheVariants.{Volume};
 ghost use Rattle.pcp_model.specs.Disk.{contents_of};
@@ -86,7 +86,7 @@ fn push(jobs: &mut Vec<Job>, job: Job) -> Result<(), NoMemory>
     Ok(())
 }
 
-/// The next volumes, from a position on, one for each worker.
+/// The next volumes, from a position on, one for each worker: as many as there are workers, unless fewer are left.
 pub fn next_jobs<D: Disk>(
     alloc: Global,
     disk: &mut D,
@@ -97,8 +97,9 @@ pub fn next_jobs<D: Disk>(
     requires within { index < length volumes.now }
     requires some { 0 < workers }
     requires lengths { D.tells → AllByRecursion (IsMeasured (contents_of (D.held disk.old))) volumes.now }
-    ensures jobs { D.tells → IfOk result (λ jobs. AreJobs (contents_of (D.held disk.old)) (drop index volumes.now) jobs.items (drop (index + vec_len jobs) volumes.now)) }
+    ensures jobs { D.tells → IfOk result (λ jobs. AreJobs (contents_of (D.held disk.old)) 0 (drop index volumes.now) jobs.items (drop (index + vec_len jobs) volumes.now)) }
     ensures some { IfOk result (λ jobs. (0 < vec_len jobs) × (index + vec_len jobs ≤ length volumes.now)) }
+    ensures count { IfOk result (λ jobs. vec_len jobs ≡ min workers (length volumes.now - index)) }
     ensures looks { Looks D.Disk disk.old disk.new }
     ensures cause { IfErr result (λ e. e ≡ DiskFault → Rose (D.faults disk.old) (D.faults disk.new)) }
     ensures fault { IfErr result (λ e. (e ≡ DiskFault) ⊎ (e ≡ Refused)) }

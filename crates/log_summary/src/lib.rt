@@ -12,7 +12,11 @@ mod table;
 mod tally;
 mod walking;
 
-pub use laws::{tables_merge, tables_tell};
+pub use laws::{
+    keys_are_apart, lines_tell, numbers_are_printed, summary_answers_once, tables_merge,
+    tables_tell,
+};
+pub use numbers::{block_number, word_number};
 pub use summing::summarize;
-pub use table::Table;
+pub use table::{Table, code_of};
 pub use tally::Tally;

@@ -1,12 +1,13 @@
 //! Which number a value is, by its metric's type code (pmLookupDesc(3)).
-ghost use Rattle.std.specs.Prelude.{◌≡◌};
-ghost use Rattle.log_summary.specs.Numbers.{word_number, number_in, block_number};
+ghost use Rattle.std.specs.Prelude.{◌≡◌, IfSome};
+ghost use Rattle.log_summary.specs.Numbers.{IsLong, word_number, number_in, block_number};
 
 use pcp_base::be64;
 
 /// The number that a value of 32 bits in its set is.
 pub fn word_number(code: Option<u32>, word: u32) -> Option<i128>
-    ensures { result ≡ word_number code word }
+    ensures value { result ≡ word_number code word }
+    ensures range { IfSome result IsLong }
 {
     match code {
         Some(0) => Some(word.cast_signed() as i128),
@@ -28,7 +29,8 @@ fn number_in(bytes: &[u8]) -> Option<u64>
 
 /// The number that a value in a block is.
 pub fn block_number(code: Option<u32>, bytes: &[u8]) -> Option<i128>
-    ensures { result ≡ block_number code bytes.now }
+    ensures value { result ≡ block_number code bytes.now }
+    ensures range { IfSome result IsLong }
 {
     let number = number_in(bytes)?;
     match code {

@@ -38,8 +38,8 @@ fn joined_to(before: Option<&Tally>, tally: Tally) -> Tally
     }
 }
 
-// The type code of a metric's description.
-fn code_of(meta: &MetaState, pmid: Pmid) -> Option<u32>
+/// The type code of a metric's description.
+pub fn code_of(meta: &MetaState, pmid: Pmid) -> Option<u32>
     ensures { result ≡ code_in (desc_of (description_of pmid meta.now)) }
 {
     match meta.desc(pmid) {

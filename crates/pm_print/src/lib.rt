@@ -17,3 +17,4 @@ pub use images::{image_bytes, image_text};
 pub use infos::info_text;
 pub use items::{item_text, put_item, set_text};
 pub use laws::bytes_are_the_image;
+pub use stamps::put_stamp;

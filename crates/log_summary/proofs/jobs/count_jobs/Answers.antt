@@ -1,5 +1,5 @@
 -- What holds of each job and its count holds of all.
-use Rattle.std.proofs.Common.{◌≡◌, ℕ, length, arith}
+use Rattle.std.proofs.Common.{◌≡◌, length, arith}
 use Rattle.std.specs.Prelude.{slice_index_or}
 use Rattle.log_summary.specs.Jobs.{IsCount}
 use Rattle.log_summary.proofs.Rounds.{by_place}

@@ -27,8 +27,9 @@ loop-worker-preserved g c =
       quiet = c.in_ok-bytes.ensures.quiet ∙ c.loop-worker.invariant.quiet;
       jobs = λ tells.
           let files = contents_of (g.D.Disk.held c.args.disk.now) in
+          let worker : c.loop-worker.worker ≡ 0 + length c.loop-worker.jobs.items = omega (arith, c.loop-worker.invariant.each) in
           let bytes : c.in_ok-bytes.bytes ≡ files (Volume v.0) = subst (λ h. c.in_ok-bytes.bytes ≡ contents_of h (Volume v.0)) (c.loop-worker.invariant.looks.held tells) (c.in_ok-bytes.ensures.whole tells) in
-          subst (λ (js : List Job). AreJobs files (drop c.args.index volumes) js (drop (at + 1) volumes)) (sym c.in_ok-push.ensures.items)
-          (one_job files (drop c.args.index volumes) c.loop-worker.jobs.items (drop at volumes) v (drop (at + 1) volumes) _ (c.loop-worker.invariant.jobs tells) (drop_more volumes at (0, 0) within)
-          (record { number = refl; bytes = bytes; long = measured_at files volumes at (c.requires.lengths tells) within; last = none_behind volumes (at + 1) (omega (arith, within)) }));
+          subst (λ (js : List Job). AreJobs files 0 (drop c.args.index volumes) js (drop (at + 1) volumes)) (sym c.in_ok-push.ensures.items)
+          (one_job files 0 (drop c.args.index volumes) c.loop-worker.jobs.items (drop at volumes) v (drop (at + 1) volumes) _ (c.loop-worker.invariant.jobs tells) (drop_more volumes at (0, 0) within)
+          (record { worker_is = worker; number = refl; bytes = bytes; long = measured_at files volumes at (c.requires.lengths tells) within; last = none_behind volumes (at + 1) (omega (arith, within)) }));
     }

@@ -12,5 +12,5 @@ invariant-loop-worker g l = record {
   each : l.worker ≡ vec_len l.jobs;
   looks : Looks g.D.Disk l.initial.disk l.disk;
   quiet : g.D.Disk.faults l.disk ≡ g.D.Disk.faults l.initial.disk;
-  jobs : g.D.Disk.tells → AreJobs (contents_of (g.D.Disk.held l.initial.disk)) (drop l.index l.volumes) l.jobs.items (drop l.at l.volumes);
+  jobs : g.D.Disk.tells → AreJobs (contents_of (g.D.Disk.held l.initial.disk)) 0 (drop l.index l.volumes) l.jobs.items (drop l.at l.volumes);
 }

@@ -1,5 +1,5 @@
 -- The line takes its place.
-use Rattle.std.proofs.Common.{◌≡◌, ℕ, ℤ, List, w32, to_z, of_z, map, ap, ◌∙◌}
+use Rattle.std.proofs.Common.{◌≡◌, ℤ, List, w32, to_z, of_z, map, ap, ◌∙◌}
 use Rattle.std.proofs.lemmas.Int.{to_z-of_z}
 use Rattle.std.specs.BTreeMap.{insert_entry}
 use Rattle.log_summary.specs.Lines.{Line, line_order, line_of, metric_name}

@@ -1,5 +1,5 @@
 -- What holds of the domain is what is found.
-use Rattle.std.proofs.Common.{◌≡◌, ℕ, ℤ, List, [], sym, ap, ◌∙◌, Option, Some, None}
+use Rattle.std.proofs.Common.{◌≡◌, ℕ, List, [], sym, ap, ◌∙◌, Option, Some, None}
 use Rattle.std.specs.Option.{unwrap_or, MatchOption}
 use Rattle.pcp_base.specs.Time.{Moment}
 use Rattle.pcp_model.specs.declared.records.MetaRecord.{MetaRecord}

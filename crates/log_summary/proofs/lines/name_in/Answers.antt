@@ -1,5 +1,5 @@
 -- An instance with the number is the first, since none so far has it.
-use Rattle.std.proofs.Common.{◌≡◌, ℕ, ◌+◌, ◌<◌, ℤ, List, w32, to_z, of_z, drop, length, Some, option_map, sym, ap, ◌∙◌, arith}
+use Rattle.std.proofs.Common.{◌≡◌, ℕ, ℤ, List, w32, to_z, of_z, drop, option_map, sym, ap, ◌∙◌, arith}
 use Rattle.std.proofs.lemmas.Int.{to_z-of_z, ints}
 use Rattle.pm_print.specs.Sets.{name_in}
 use Rattle.pm_print.proofs.Positions.{not_past}

@@ -1,7 +1,6 @@
 -- The volumes of the jobs are behind those so far.
-use Rattle.std.proofs.Common.{◌≡◌, ℕ, ◌+◌, inl, inr, ⊎_elim, List, drop, vec_len, sym, subst}
+use Rattle.std.proofs.Common.{ℕ, ◌+◌, inr, ⊎_elim, List, drop, vec_len, sym, subst}
 use Rattle.pcp_model.specs.Disk.{contents_of}
-use Rattle.archive_reader.specs.declared.fault.ReaderFault.TheVariants.{DiskFault}
 use Rattle.log_summary.specs.Summaries.{IsSoFar}
 use Rattle.log_summary.proofs.Rounds.{all_merged, all_stopped, lack_fault, no_disk_fault, refused_is_no_disk}
 use Rattle.log_summary.proofs.summing.sum_some.Goals as goal
@@ -11,7 +10,7 @@ returns-in-Err-clause-fault g c = λ tells so_far.
     let files = contents_of (g.D.Disk.held c.args.disk.now) in
     let volumes : List (ℕ × ℕ) = c.args.volumes.now in
     ⊎_elim (λ refused. lack_fault files volumes c.in-Err.fault (inr refused))
-    (λ stops. all_stopped files volumes c.args.meta.now c.args.from c.args.to (drop c.args.index volumes) c.in_ok-jobs.jobs.items (drop (c.args.index + vec_len c.in_ok-jobs.jobs) volumes)
+    (λ stops. all_stopped files volumes c.args.meta.now c.args.from c.args.to 0 (drop c.args.index volumes) c.in_ok-jobs.jobs.items (drop (c.args.index + vec_len c.in_ok-jobs.jobs) volumes)
     c.in_ok-counts.counts.items c.args.total.now c.in-Err.fault (c.in_ok-jobs.ensures.jobs tells) c.in_ok-counts.ensures stops so_far)
     c.in-Err.ensures.fault
 
@@ -25,5 +24,5 @@ returns-in-Ok-clause-summed g c = λ tells so_far.
     let files = contents_of (g.D.Disk.held c.args.disk.now) in
     let volumes : List (ℕ × ℕ) = c.args.volumes.now in
     subst (λ n. IsSoFar files volumes c.args.meta.now c.args.from c.args.to (drop n volumes) c.merge_all.new.total) (sym c.behind-next.ensures)
-    (all_merged files volumes c.args.meta.now c.args.from c.args.to (drop c.args.index volumes) c.in_ok-jobs.jobs.items (drop (c.args.index + vec_len c.in_ok-jobs.jobs) volumes)
+    (all_merged files volumes c.args.meta.now c.args.from c.args.to 0 (drop c.args.index volumes) c.in_ok-jobs.jobs.items (drop (c.args.index + vec_len c.in_ok-jobs.jobs) volumes)
     c.in_ok-counts.counts.items c.args.total.now c.merge_all.new.total (c.in_ok-jobs.ensures.jobs tells) c.in_ok-counts.ensures c.in-Ok.ensures.merged so_far)

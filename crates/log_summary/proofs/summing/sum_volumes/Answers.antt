@@ -1,5 +1,5 @@
 -- From no volume on to all.
-use Rattle.std.proofs.Common.{◌≡◌, ℕ, [], List, drop, length, refl, ◌∙◌, subst, arith}
+use Rattle.std.proofs.Common.{ℕ, [], List, drop, refl, ◌∙◌, subst, arith}
 use Rattle.std.proofs.lemmas.List.{drop_all}
 use Rattle.pcp_model.specs.Disk.{contents_of}
 use Rattle.archive_loading.proofs.Looking.{looks_none, looks_on}

@@ -1,5 +1,5 @@
 -- The table of all volumes, as text, is the summary of the scan.
-use Rattle.std.proofs.Common.{◌≡◌, ℕ, List, refl, ap, ◌∙◌, sym, subst}
+use Rattle.std.proofs.Common.{ap, ◌∙◌, subst}
 use Rattle.pcp_model.specs.Disk.{contents_of}
 use Rattle.archive_loading.specs.Loaded.{Loaded}
 use Rattle.archive_loading.proofs.Looking.{looks_on}
