@@ -4,18 +4,21 @@ use pcp_outside::MemSink;
 use pcp_shell::write_help;
 use std::test::Fail;
 
-const LINES: [&str; 17] = [
+const LINES: [&str; 20] = [
     "\n  once SEC USEC FILE ",
     "\n  replay VOLUME ",
     "\n  make NUMBER TICKS VOLUME ",
     "\n  record SAMPLES VOLUME ",
     "\n  serve PORT COUNT ",
     "\n  pull PORT SAMPLES VOLUME NAME.. ",
+    "\n  extract BASE1 BASE2 VOLUME ",
     "\n  recover ",
     "\n  dump ",
     "\n  at SEC USEC ",
     "\n  range SEC USEC SEC USEC ",
     "\n  value SEC USEC NAME ",
+    "\n  watch SEC USEC SEC USEC ",
+    "\n  summary WORKERS SEC USEC SEC USEC ",
     "\n  info ",
     "\n  check ",
     "\n  retire N ",

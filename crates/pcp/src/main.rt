@@ -2,13 +2,15 @@
 //! command, standard input and standard output are handed to the command, whose status is the program's. A lone `--help` prints the help.
 #![tactic(auto)]
 
-use pcp_outside::{Sink, Source};
+use pcp_outside::{Free, Sink, Source};
 use pcp_shell::{
-    asks_help, first_bad_behind_port, first_bad_of, pull_samples, record_samples, serve_clients,
-    write_help,
+    asks_help, first_bad_behind_port, first_bad_behind_sources, first_bad_of, pull_samples,
+    record_samples, serve_clients, source_of_itself, sources_of, without_sources, write_help,
 };
 use pcp_system::{FileDisk, ReaderSource, Screen, WriterSink, open_standard};
 use pm_commands::{Call, Refusal, offline, read_words, writes_archive};
+use pm_extracting::extract;
+use pm_summing::summary;
 use std::alloc::{Alloc, AllocError, Global};
 use std::env::Env;
 use std::fs::{File, Files};
@@ -45,24 +47,25 @@ fn first_bad_word(rt: &(impl Env + Alloc<A = Global>)) -> Result<usize, AllocErr
     match Call::named(&words) {
         Call::Serve => first_bad_behind_port(rt.alloc(), Call::Serve, &words),
         Call::Pull => first_bad_behind_port(rt.alloc(), Call::Pull, &words),
+        Call::Extract => first_bad_behind_sources(rt.alloc(), &words),
         call => first_bad_of(rt.alloc(), call, &words),
     }
 }
 
-// The end of a faulty command line.
-fn usage(rt: &impl Alloc<A = Global>, out: &mut impl Sink, at: usize) -> ExitCode {
+// The end of a faulty command line, and its status.
+fn usage(alloc: Global, out: &mut impl Sink, at: usize) -> u8 {
     let refusal = Refusal::Usage { at };
-    match refusal.tell(rt.alloc(), out) {
-        Ok(()) => ExitCode::from(refusal.status()),
-        Err(_) => ExitCode::from(9),
+    match refusal.tell(alloc, out) {
+        Ok(()) => refusal.status(),
+        Err(_) => 9,
     }
 }
 
-// The end where some word isn't UTF-8.
-fn no_text(rt: &(impl Env + Alloc<A = Global>), out: &mut impl Sink) -> ExitCode {
+// The end where some word isn't UTF-8, and its status.
+fn no_text(rt: &(impl Env + Alloc<A = Global>), out: &mut impl Sink) -> u8 {
     match first_bad_word(rt) {
-        Ok(at) => usage(rt, out, at),
-        Err(_) => ExitCode::from(9),
+        Ok(at) => usage(rt.alloc(), out, at),
+        Err(_) => 9,
     }
 }
 
@@ -101,7 +104,11 @@ where
     match call {
         Call::Record => record_samples(rt, command, input, out, disk, screen),
         Call::Pull => pull_samples(rt, command, out, disk, screen),
-        Call::Offline | Call::Serve => {
+        Call::Summary => {
+            let status = summary(rt, rt.alloc(), command, out, &mut disk, &Free);
+            (status, disk)
+        }
+        Call::Offline | Call::Serve | Call::Extract => {
             let mut opened = None;
             let status = offline(rt.alloc(), command, input, out, &mut disk, &mut opened);
             (status, disk)
@@ -142,6 +149,67 @@ where
     status
 }
 
+// Merges the archives of two bases into that of the base, and answers the status.
+fn merge<R: Files<File = File> + Alloc<A = Global>>(
+    rt: &R,
+    bases: [String; 3],
+    words: &[String],
+    out: &mut impl Sink,
+    screen: &Screen,
+) -> u8 {
+    let alloc = rt.alloc();
+    let [base, first, second] = bases;
+    let mut first = FileDisk::for_reading(alloc, rt, first);
+    let mut second = FileDisk::for_reading(alloc, rt, second);
+    let mut disk = FileDisk::new(alloc, rt, base);
+    match source_of_itself(&disk, &first, &second) {
+        Ok(None) => {}
+        Ok(Some(at)) => return usage(alloc, out, at),
+        Err(_) => return 9,
+    }
+    let status = extract(alloc, words, &mut first, &mut second, out, &mut disk);
+    tell_of(first, screen);
+    tell_of(second, screen);
+    tell_of(disk, screen);
+    status
+}
+
+// Which of the words of `extract` is the base itself: also where no file of it is there yet.
+fn named_itself(base: &str, first: &str, second: &str) -> Option<usize> {
+    if first.as_bytes() == base.as_bytes() {
+        return Some(1);
+    }
+    if second.as_bytes() == base.as_bytes() {
+        return Some(2);
+    }
+    None
+}
+
+// Merges the archives of the bases that the words name into the archive, and answers the status. Where one of the two is missing, or is the
+// archive itself, the command line is faulty, and nothing is touched.
+fn merge_sources<R: Files<File = File> + Alloc<A = Global>>(
+    rt: &R,
+    base: String,
+    command: &[String],
+    out: &mut impl Sink,
+    screen: &Screen,
+) -> u8 {
+    let alloc = rt.alloc();
+    let Some((first, second)) = sources_of(command) else {
+        return usage(alloc, out, command.len());
+    };
+    if let Some(at) = named_itself(base.as_str(), first.as_str(), second.as_str()) {
+        return usage(alloc, out, at);
+    }
+    let (Ok(first), Ok(second)) = (first.to_string(alloc), second.to_string(alloc)) else {
+        return 9;
+    };
+    let Ok(words) = without_sources(alloc, command) else {
+        return 9;
+    };
+    merge(rt, [base, first, second], &words, out, screen)
+}
+
 // Closes the files, and then tells why one of them failed.
 fn tell_of<R: Files<File = File>>(disk: FileDisk<'_, R>, screen: &Screen) {
     let why = disk.why();
@@ -163,7 +231,7 @@ fn main(rt: HostRuntime) -> ExitCode {
     let words = match env::args(&rt) {
         Ok(words) => words,
         Err(error) if error.kind() == ErrorKind::OutOfMemory => return ExitCode::from(9),
-        Err(_) => return no_text(&rt, &mut out),
+        Err(_) => return ExitCode::from(no_text(&rt, &mut out)),
     };
     let all: Vec<String> = match words.collect(alloc) {
         Ok(all) => all,
@@ -173,7 +241,7 @@ fn main(rt: HostRuntime) -> ExitCode {
         return ExitCode::from(write_help(alloc, &mut out));
     }
     let [_, base, command @ ..] = all.as_slice() else {
-        return usage(&rt, &mut out, 0);
+        return ExitCode::from(usage(alloc, &mut out, 0));
     };
     let base = match base.to_string(alloc) {
         Ok(base) => base,
@@ -183,7 +251,8 @@ fn main(rt: HostRuntime) -> ExitCode {
     let screen = Screen::new(alloc, &rt, &rt.stderr());
     let status = match Call::named(command) {
         Call::Serve => serve_clients(&rt, command, &mut input, &mut out),
-        Call::Offline | Call::Record | Call::Pull => {
+        Call::Extract => merge_sources(&rt, base, command, &mut out, &screen),
+        Call::Offline | Call::Record | Call::Pull | Call::Summary => {
             archive(&rt, base, command, &mut input, &mut out, &screen)
         }
     };

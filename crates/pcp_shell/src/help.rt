@@ -13,7 +13,7 @@ const ENDING: &str =
     "BASE begins the names of the archive's files: BASE.meta, BASE.index, BASE.0 and so on.";
 
 // Each command with its words, and what it does.
-const COMMANDS: [(&str, &str); 17] = [
+const COMMANDS: [(&str, &str); 20] = [
     (
         "once SEC USEC FILE",
         "Log the values of an image as one result",
@@ -35,6 +35,10 @@ const COMMANDS: [(&str, &str); 17] = [
         "pull PORT SAMPLES VOLUME NAME..",
         "Ask a server for metrics, and log a sample each second",
     ),
+    (
+        "extract BASE1 BASE2 VOLUME",
+        "Log the merge of two other archives",
+    ),
     ("recover", "Mend an archive that was stopped anywhere"),
     ("dump", "Print the label and all items of an archive"),
     ("at SEC USEC", "Print the last item not after a moment"),
@@ -45,6 +49,14 @@ const COMMANDS: [(&str, &str); 17] = [
     (
         "value SEC USEC NAME",
         "Print the values that a metric last had at a moment",
+    ),
+    (
+        "watch SEC USEC SEC USEC",
+        "Print which rules hold at each sample between two moments",
+    ),
+    (
+        "summary WORKERS SEC USEC SEC USEC",
+        "Print what an archive's values come to between two moments",
     ),
     ("info", "Print the descriptions of an archive"),
     (

@@ -10,6 +10,14 @@ use pcp_outside::FileId;
 use std::alloc::{AllocError, Global};
 use std::fs::{File, Files, OpenOptions, TryLockError};
 use std::io::{self, ErrorKind, Read, Write};
+use std::os::unix::fs::MetadataExt;
+
+/// Which file of the system one is, under whatever name: its number on its device.
+#[derive(Clone, Copy, PartialEq)]
+struct Node {
+    device: u64,
+    number: u64,
+}
 
 // So often a folder whose files grow is listed again: a logger waits for its disk between any two appends.
 const MOST_LISTINGS: u32 = 20;
@@ -95,6 +103,38 @@ impl<'a, R: Files<File = File>> ArchiveFiles<'a, R> {
             Err(error) if error.kind() == ErrorKind::NotFound => Ok(0),
             Err(error) => of_file(Call::Measure, file, Err(error)),
         }
+    }
+
+    fn node_of(&self, file: FileId) -> Result<Option<Node>, Trouble> {
+        match self.files.metadata(self.name_of(file)?.as_str()) {
+            Ok(found) => Ok(Some(Node {
+                device: found.dev(),
+                number: found.ino(),
+            })),
+            Err(error) if error.kind() == ErrorKind::NotFound => Ok(None),
+            Err(error) => of_file(Call::Measure, file, Err(error)),
+        }
+    }
+
+    // Which files of the system are there under its names.
+    fn nodes(&self) -> Result<Vec<Node>, Trouble> {
+        let stem = self.place()?.1.as_bytes();
+        let names = self.names()?;
+        let mut nodes = Vec::new(self.alloc);
+        for name in names.as_slice().split(|byte| *byte == 0) {
+            let Some(file) = named(stem, name) else {
+                continue;
+            };
+            add_node(&mut nodes, self.node_of(file)?)?;
+        }
+        Ok(nodes)
+    }
+
+    /// Whether one of the files that are there is also one of another archive's, under whatever name.
+    pub(crate) fn shares_file(&self, other: &Self) -> Result<bool, Trouble> {
+        let others = other.nodes()?;
+        let nodes = self.nodes()?;
+        Ok(nodes.iter().any(|node| others.contains(node)))
     }
 
     fn list(&self) -> Result<Listing, Trouble> {
@@ -393,6 +433,13 @@ impl<'a, R: Files<File = File>> ArchiveFiles<'a, R> {
         self.is_listed = true;
         Ok(())
     }
+}
+
+fn add_node(nodes: &mut Vec<Node>, node: Option<Node>) -> Result<(), AllocError> {
+    if let Some(node) = node {
+        nodes.push(node)?;
+    }
+    Ok(())
 }
 
 fn is_denied(trouble: &Trouble) -> bool {

@@ -8,6 +8,7 @@ use crate::trouble::{Trouble, line_of};
 use pcp_outside::{Disk, Failed, FileId};
 use std::alloc::{AllocError, Global};
 use std::fs::{File, Files};
+use std::io::ErrorKind;
 
 /// The files `BASE.meta`, `BASE.index`, `BASE.0` and so on of the system. It tells no content. What they hold is listed at the first
 /// call, and then kept by the disk's own changes. A disk that writes holds the lock on `BASE.meta` (flock(2)), which keeps other such
@@ -45,6 +46,16 @@ impl<'a, R: Files<File = File>> FileDisk<'a, R> {
             archive: ArchiveFiles::new(alloc, files, base, false),
             trouble: None,
             faults: 0,
+        }
+    }
+
+    /// Whether one of its files is also one of another archive's, under whatever name: one number on one device. Nothing is opened, nothing
+    /// is kept of it, and where the system doesn't tell, the answer is no.
+    pub fn shares_file(&self, other: &FileDisk<'a, R>) -> Result<bool, AllocError> {
+        match self.archive.shares_file(&other.archive) {
+            Ok(shares) => Ok(shares),
+            Err(trouble) if trouble.error.kind() == ErrorKind::OutOfMemory => Err(AllocError),
+            Err(_) => Ok(false),
         }
     }
 

@@ -22,7 +22,7 @@ use Rattle.run_script.specs.declared.script.Script.{Script}
 use Rattle.pm_words.specs.declared.refusal.Refusal.{Refusal}
 use Rattle.pm_words.specs.declared.refusal.Refusal.TheVariants.{Compressed, NotArchive, Nothing, UnsoundItems, UnsoundBoundary, UnsoundLate, Live}
 use Rattle.pm_words.specs.declared.words.Command.{Command}
-use Rattle.pm_words.specs.declared.words.Command.TheVariants.{Once, Replay, Make, Retire, MmvMake, MmvDump, MmvLift, Dump, Info, Check, Recover, At, Range, Value, Record, Serve, Pull}
+use Rattle.pm_words.specs.declared.words.Command.TheVariants.{Once, Replay, Make, Retire, MmvMake, MmvDump, MmvLift, Dump, Info, Check, Recover, At, Range, Value, Watch, Record, Serve, Pull, Extract, Summary}
 use Rattle.pm_words.specs.declared.words.ValueWords.{ValueWords}
 use Rattle.pm_words.specs.Refusals.{IsOfSoundness, ending_refusal, status_of}
 use Rattle.pm_words.specs.Sides.{Found}
@@ -153,7 +153,10 @@ only_check Check input f e of t = refl
 only_check Recover input f e of t = absurd (no_recovery f e of t)
 only_check (At moment) input f e of t = absurd (no_look (at.IsStopped moment) f e of (λ r why. no_at moment r f e of why) t)
 only_check (Range from to) input f e of t = absurd (no_look (range.IsStopped from to) f e of (λ r why. no_range from to r f e of why) t)
+only_check (Watch from to) input f e of t = absurd (no_look dump.BadRecord f e of (λ r why. no_dump r f e of why) t)
 only_check (Value asked) input f e of t = absurd (no_look (value.IsStopped asked) f e of (λ r why. no_value asked r f e of why) t)
 only_check (Record asked) input f e of t = absurd t
 only_check (Serve count) input f e of t = absurd t
 only_check (Pull asked) input f e of t = absurd t
+only_check (Extract volume) input f e of t = absurd t
+only_check (Summary asked) input f e of t = absurd t

@@ -9,16 +9,18 @@ use Rattle.run_passes.specs.declared.opening.Opened.{Opened}
 use Rattle.pm_words.specs.declared.words.Call.TheVariants as calls
 use Rattle.pm_words.specs.declared.words.Command.{Command}
 use Rattle.pm_words.specs.declared.refusal.Refusal.{Refusal}
-use Rattle.pm_words.specs.declared.refusal.Refusal.TheVariants.{Usage, ReadFault, InputLimit, Image, Line, Script, Condition, Limit, NotLater, Changed, Compressed, NotArchive, Nothing, DiskFault, ClockEnd, ClockFault, Accept, Peer, NoMemory}
+use Rattle.pm_words.specs.declared.refusal.Refusal.TheVariants.{Usage, ReadFault, InputLimit, Image, Line, Script, Rules, Condition, Limit, NotLater, Changed, Compressed, NotArchive, Nothing, DiskFault, ClockEnd, ClockFault, Accept, Peer, Lacks, Clashes, NoMemory}
 use Rattle.pm_words.specs.Asking.{Got}
 use Rattle.pm_words.specs.CommandLine.{asked_by, takes_input}
 use Rattle.pm_words.specs.Inputs.{input_limit, refusal_of}
 use Rattle.pm_words.specs.Reading.{IsAbove}
-use Rattle.pm_words.specs.Refusals.{Stage, AtWords, AtReading, AtInput, AtFiles, AtDisk, AtMemory, IsOfRun, script_status, stage_of, status_of}
+use Rattle.pm_words.specs.Refusals.{Stage, AtWords, AtReading, AtInput, AtFiles, AtDisk, AtMemory, IsOfRun, rule_status, script_status, stage_of, status_of}
 use Rattle.pm_words.specs.Serving.{HasRegions, Left, IsNever}
 use Rattle.pm_words.specs.Sides.{DiskSide, files_found, Untouched}
 use Rattle.pm_words.proofs.Asked as asked
-use Rattle.pm_words.proofs.Asked.{script_apart}
+use Rattle.pm_words.proofs.Asked.{rules_apart, script_apart}
+use Rattle.rule_watch.specs.declared.fault.RuleLineFault.{RuleLineFault}
+use Rattle.rule_watch.specs.declared.fault.RuleLineFault.TheVariants as rule
 use Rattle.run_script.specs.declared.fault.ScriptLineFault.{ScriptLineFault}
 use Rattle.run_script.specs.declared.fault.ScriptLineFault.TheVariants as script
 use Rattle.pm_commands.specs.Causes.{Asks, fault_of, IsReader, Finds, Cause, CauseAt}
@@ -50,6 +52,11 @@ not_run n other h = let e : true ≡ false = sym (run_status n h) ∙ other in c
 script_not_run : (fault : ScriptLineFault) → ComesOfRun (script_status fault) → ⊥
 script_not_run (script.Line found) h = not_run 2 refl h
 script_not_run script.Regions h = not_run 7 refl h
+
+rules_not_run : (fault : RuleLineFault) → ComesOfRun (rule_status fault) → ⊥
+rules_not_run rule.Grammar h = not_run 2 refl h
+rules_not_run rule.Condition h = not_run 2 refl h
+rules_not_run rule.Many h = not_run 7 refl h
 
 module _ (words : List (List ℕ)) (s : SourceSide) (k : SinkSide) (d : DiskSide) where
   -- a refusal that has this cause
@@ -114,6 +121,7 @@ module _ (words : List (List ℕ)) (s : SourceSide) (k : SinkSide) (d : DiskSide
   disk_rose : (e : Refusal) → Caused e → status_of e ≡ 5 → Rose d.faults d.faults_after
   disk_rose DiskFault c h = c.1.2
   disk_rose (Script fault) c h = absurd (script_apart 5 (λ k. omega (arith, k)) (λ k. omega (arith, k)) fault.fault h)
+  disk_rose (Rules fault) c h = absurd (rules_apart 5 (λ k. omega (arith, k)) (λ k. omega (arith, k)) fault.fault h)
   disk_rose _ c h = absurd (omega (arith, h))
 
   pub disk_fault_rose : (status : ℕ) → Ends words s k d status → status ≡ 5 → Rose d.faults d.faults_after
@@ -125,7 +133,8 @@ module _ (words : List (List ℕ)) (s : SourceSide) (k : SinkSide) (d : DiskSide
   limit_only : (e : Refusal) → Caused e → status_of e ≡ 7 → LimitCause words s d
   limit_only InputLimit c h = inl (c.0.0, c.0.1)
   limit_only (Script fault) c h = inr (inl (fault, h, (c.0, c.1.0)))
-  limit_only (Limit what number) c h = inr (inr (what, number, turned_away (Limit what number) c))
+  limit_only (Rules fault) c h = inr (inr (inl (fault, h, (c.0, c.1.0))))
+  limit_only (Limit what number) c h = inr (inr (inr (what, number, turned_away (Limit what number) c)))
   limit_only _ c h = absurd (omega (arith, h))
 
   pub limit_cause : (status : ℕ) → Ends words s k d status → status ≡ 7 → LimitCause words s d
@@ -138,6 +147,7 @@ module _ (words : List (List ℕ)) (s : SourceSide) (k : SinkSide) (d : DiskSide
   input_only (Image fault) c h = inl (Image fault, h, (c.0, c.1.0))
   input_only (Line fault) c h = inl (Line fault, h, (c.0, c.1.0))
   input_only (Script fault) c h = inl (Script fault, h, (c.0, c.1.0))
+  input_only (Rules fault) c h = inl (Rules fault, h, (c.0, c.1.0))
   input_only (Condition line) c h = inr (line, turned_away (Condition line) c)
   input_only _ c h = absurd (omega (arith, h))
 
@@ -148,10 +158,13 @@ module _ (words : List (List ℕ)) (s : SourceSide) (k : SinkSide) (d : DiskSide
   input_found (Image fault) c b f bad = inl (ap status_of (found_same c.0 b (Image fault) f c.1.0 bad))
   input_found (Line fault) c b f bad = inl (ap status_of (found_same c.0 b (Line fault) f c.1.0 bad))
   input_found (Script fault) c b f bad = inl (ap status_of (found_same c.0 b (Script fault) f c.1.0 bad))
+  input_found (Rules fault) c b f bad = inl (ap status_of (found_same c.0 b (Rules fault) f c.1.0 bad))
   input_found (ClockEnd left) c b f bad = absurd c.1
   input_found (ClockFault left) c b f bad = absurd c.1
   input_found Accept c b f bad = absurd c.1
   input_found (Peer reply why) c b f bad = absurd c.1
+  input_found (Lacks source pmid) c b f bad = absurd c.1
+  input_found (Clashes pmid) c b f bad = absurd c.1
   input_found NoMemory c b f bad = inr (inl refl)
   input_found _ c b f bad = absurd (found_good c.0 b f c.1.0.0 bad)
 
@@ -177,11 +190,14 @@ module _ (words : List (List ℕ)) (s : SourceSide) (k : SinkSide) (d : DiskSide
   turned_found status b good so (Image fault) c = absurd (found_bad c.0 b (Image fault) c.1.0 good)
   turned_found status b good so (Line fault) c = absurd (found_bad c.0 b (Line fault) c.1.0 good)
   turned_found status b good so (Script fault) c = absurd (found_bad c.0 b (Script fault) c.1.0 good)
+  turned_found status b good so (Rules fault) c = absurd (found_bad c.0 b (Rules fault) c.1.0 good)
   turned_found status b good so DiskFault c = inr (inr (inr refl))
   turned_found status b good so (ClockEnd left) c = absurd c.1
   turned_found status b good so (ClockFault left) c = absurd c.1
   turned_found status b good so Accept c = absurd c.1
   turned_found status b good so (Peer reply why) c = absurd c.1
+  turned_found status b good so (Lacks source pmid) c = absurd c.1
+  turned_found status b good so (Clashes pmid) c = absurd c.1
   turned_found status b good so NoMemory c = inr (inl refl)
   turned_found status b good so e c = inl (so c.0 e c.1.2)
 
@@ -196,11 +212,13 @@ module _ (words : List (List ℕ)) (s : SourceSide) (k : SinkSide) (d : DiskSide
   not_later_only : (e : Refusal) → Caused e → status_of e ≡ 12 → (last : Moment) × TurnsAway words s d (NotLater last)
   not_later_only (NotLater last) c h = (last, turned_away (NotLater last) c)
   not_later_only (Script fault) c h = absurd (script_apart 12 (λ k. omega (arith, k)) (λ k. omega (arith, k)) fault.fault h)
+  not_later_only (Rules fault) c h = absurd (rules_apart 12 (λ k. omega (arith, k)) (λ k. omega (arith, k)) fault.fault h)
   not_later_only _ c h = absurd (omega (arith, h))
 
   changed_only : (e : Refusal) → Caused e → status_of e ≡ 13 → (pmid : ℕ) × TurnsAway words s d (Changed pmid)
   changed_only (Changed pmid) c h = (pmid, turned_away (Changed pmid) c)
   changed_only (Script fault) c h = absurd (script_apart 13 (λ k. omega (arith, k)) (λ k. omega (arith, k)) fault.fault h)
+  changed_only (Rules fault) c h = absurd (rules_apart 13 (λ k. omega (arith, k)) (λ k. omega (arith, k)) fault.fault h)
   changed_only _ c h = absurd (omega (arith, h))
 
   pub run_is_exact : (status : ℕ) → Ends words s k d status → RunIsExact words s d status
@@ -215,6 +233,7 @@ module _ (words : List (List ℕ)) (s : SourceSide) (k : SinkSide) (d : DiskSide
   nothing_only : (e : Refusal) → Caused e → status_of e ≡ 11 → (stamp : Moment) × TurnsAway words s d (Nothing stamp)
   nothing_only (Nothing stamp) c h = (stamp, turned_away (Nothing stamp) c)
   nothing_only (Script fault) c h = absurd (script_apart 11 (λ k. omega (arith, k)) (λ k. omega (arith, k)) fault.fault h)
+  nothing_only (Rules fault) c h = absurd (rules_apart 11 (λ k. omega (arith, k)) (λ k. omega (arith, k)) fault.fault h)
   nothing_only _ c h = absurd (omega (arith, h))
 
   pub nothing_is_there : (status : ℕ) → Ends words s k d status → NothingIsThere words s d status
@@ -229,6 +248,7 @@ module _ (words : List (List ℕ)) (s : SourceSide) (k : SinkSide) (d : DiskSide
   archive_only (Compressed file) c h = (Compressed file, h, turned_away (Compressed file) c)
   archive_only (NotArchive file at) c h = (NotArchive file at, h, turned_away (NotArchive file at) c)
   archive_only (Script fault) c h = absurd (script_apart 6 (λ k. omega (arith, k)) (λ k. omega (arith, k)) fault.fault h)
+  archive_only (Rules fault) c h = absurd (rules_apart 6 (λ k. omega (arith, k)) (λ k. omega (arith, k)) fault.fault h)
   archive_only _ c h = absurd (omega (arith, h))
 
   pub archive_fault_is_exact : (status : ℕ) → Ends words s k d status → ArchiveFaultIsExact words s d status
@@ -287,11 +307,14 @@ module _ (words : List (List ℕ)) (s : SourceSide) (k : SinkSide) (d : DiskSide
   completed (Image fault) c good = absurd (good_input good c.0 (Image fault) c.1.0)
   completed (Line fault) c good = absurd (good_input good c.0 (Line fault) c.1.0)
   completed (Script fault) c good = absurd (good_input good c.0 (Script fault) c.1.0)
+  completed (Rules fault) c good = absurd (good_input good c.0 (Rules fault) c.1.0)
   completed DiskFault c good = absurd (good_faults good c.0 c.1.0.1 c.1.2)
   completed (ClockEnd left) c good = absurd c.1
   completed (ClockFault left) c good = absurd c.1
   completed Accept c good = absurd c.1
   completed (Peer reply why) c good = absurd c.1
+  completed (Lacks source pmid) c good = absurd c.1
+  completed (Clashes pmid) c good = absurd c.1
   completed NoMemory c good = inr (inl refl)
   completed e c good = inr (inr (good_files good c.0 c.1.0.1 e c.1.2))
 
@@ -301,6 +324,7 @@ module _ (words : List (List ℕ)) (s : SourceSide) (k : SinkSide) (d : DiskSide
 
   not_done : (e : Refusal) → Caused e → status_of e ≡ 0 → ⊥
   not_done (Script fault) c h = script_apart 0 (λ k. omega (arith, k)) (λ k. omega (arith, k)) fault.fault h
+  not_done (Rules fault) c h = rules_apart 0 (λ k. omega (arith, k)) (λ k. omega (arith, k)) fault.fault h
   not_done _ c h = omega (arith, h)
 
   -- where the status is 0
@@ -344,8 +368,11 @@ module _ (words : List (List ℕ)) (s : SourceSide) (k : SinkSide) (d : DiskSide
     good_regions (Image fault) c has b good runs = absurd (found_bad c.0 b (Image fault) c.1.0 good)
     good_regions (Line fault) c has b good runs = absurd (found_bad c.0 b (Line fault) c.1.0 good)
     good_regions (Script fault) c has b good runs = absurd (found_bad c.0 b (Script fault) c.1.0 good)
+    good_regions (Rules fault) c has b good runs = absurd (found_bad c.0 b (Rules fault) c.1.0 good)
     good_regions Accept c has b good runs = absurd c.1
     good_regions (Peer reply why) c has b good runs = absurd c.1
+    good_regions (Lacks source pmid) c has b good runs = absurd c.1
+    good_regions (Clashes pmid) c has b good runs = absurd c.1
     good_regions NoMemory c has b good runs = inr (inl refl)
     good_regions _ c has b good runs = inl (has (b.command, b.words_are, runs))
 
@@ -356,8 +383,11 @@ module _ (words : List (List ℕ)) (s : SourceSide) (k : SinkSide) (d : DiskSide
     ran_regions (Image fault) has asks h = absurd (not_run 2 refl h)
     ran_regions (Line fault) has asks h = absurd (not_run 2 refl h)
     ran_regions (Script fault) has asks h = absurd (script_not_run fault.fault h)
+    ran_regions (Rules fault) has asks h = absurd (rules_not_run fault.fault h)
     ran_regions Accept has asks h = absurd (not_run 21 refl h)
     ran_regions (Peer reply why) has asks h = absurd (not_run 16 refl h)
+    ran_regions (Lacks source pmid) has asks h = absurd (not_run 18 refl h)
+    ran_regions (Clashes pmid) has asks h = absurd (not_run 19 refl h)
     ran_regions NoMemory has asks h = absurd (not_run 9 refl h)
     ran_regions _ has asks h = has asks
 

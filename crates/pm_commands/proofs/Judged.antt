@@ -4,11 +4,11 @@ use Rattle.pcp_outside.specs.Sides.{SourceSide, SinkSide}
 use Rattle.pm_words.specs.declared.words.Command.{Command}
 use Rattle.pm_words.specs.declared.words.Command.TheVariants.{Check}
 use Rattle.pm_words.specs.declared.refusal.Refusal.{Refusal}
-use Rattle.pm_words.specs.declared.refusal.Refusal.TheVariants.{ReadFault, Script, UnsoundItems, UnsoundBoundary, UnsoundLate}
+use Rattle.pm_words.specs.declared.refusal.Refusal.TheVariants.{ReadFault, Script, Rules, UnsoundItems, UnsoundBoundary, UnsoundLate}
 use Rattle.pm_words.specs.CommandLine.{takes_input}
 use Rattle.pm_words.specs.Refusals.{AtFiles, IsOfSoundness, status_of}
 use Rattle.pm_words.specs.Sides.{DiskSide, files_found}
-use Rattle.pm_words.proofs.Asked.{script_apart}
+use Rattle.pm_words.proofs.Asked.{rules_apart, script_apart}
 use Rattle.pm_tasks.specs.commands.check as check
 use Rattle.pm_commands.specs.Causes.{Asks, Cause, CauseAt, IsReader}
 use Rattle.pm_commands.specs.Ends.{Ends, HasRun}
@@ -36,6 +36,7 @@ module _ (words : List (List ℕ)) (s : SourceSide) (k : SinkSide) (d : DiskSide
   ten_only (UnsoundBoundary entry file below above) c h = told (UnsoundBoundary entry file below above) tt refl c
   ten_only (UnsoundLate entry stamp) c h = told (UnsoundLate entry stamp) tt refl c
   ten_only (Script fault) c h = absurd (script_apart 10 (λ k. omega (arith, k)) (λ k. omega (arith, k)) fault.fault h)
+  ten_only (Rules fault) c h = absurd (rules_apart 10 (λ k. omega (arith, k)) (λ k. omega (arith, k)) fault.fault h)
   ten_only _ c h = absurd (omega (arith, h))
 
   -- no such archive is passed
@@ -55,6 +56,7 @@ module _ (words : List (List ℕ)) (s : SourceSide) (k : SinkSide) (d : DiskSide
   of_three : (e : Refusal) → Cause words s d e → status_of e ≡ 3 → IsReader words
   of_three ReadFault c h = c.0.0
   of_three (Script fault) c h = absurd (script_apart 3 (λ n. omega (arith, n)) (λ n. omega (arith, n)) fault.fault h)
+  of_three (Rules fault) c h = absurd (rules_apart 3 (λ n. omega (arith, n)) (λ n. omega (arith, n)) fault.fault h)
   of_three _ c h = absurd (omega (arith, h))
 
   pub without_three : (command : Command) → takes_input command ≡ false → (n : ℕ) (e : Refusal) → Cause words s d e → IsCommand words command → (status_of e ≡ n) ⊎ ((status_of e ≡ 9) ⊎ ((status_of e ≡ 3) ⊎ (status_of e ≡ 5)))

@@ -11,12 +11,12 @@ use Rattle.logging_session.proofs.ComeBack.{same_left}
 use Rattle.script_runs.specs.declared.ending.Ending.{Ending}
 use Rattle.script_runs.specs.declared.ending.Ending.TheVariants as ends
 use Rattle.pm_words.specs.declared.refusal.Refusal.{Refusal}
-use Rattle.pm_words.specs.declared.refusal.Refusal.TheVariants.{Compressed, NotArchive, Script, Live}
+use Rattle.pm_words.specs.declared.refusal.Refusal.TheVariants.{Compressed, NotArchive, Script, Rules, Live}
 use Rattle.pm_words.specs.declared.words.Command.{Command}
-use Rattle.pm_words.specs.declared.words.Command.TheVariants.{Once, Replay, Make, Retire, MmvMake, MmvDump, MmvLift, Dump, Info, Check, Recover, At, Range, Value, Record, Serve, Pull}
+use Rattle.pm_words.specs.declared.words.Command.TheVariants.{Once, Replay, Make, Retire, MmvMake, MmvDump, MmvLift, Dump, Info, Check, Recover, At, Range, Value, Watch, Record, Serve, Pull, Extract, Summary}
 use Rattle.pm_words.specs.Refusals.{AtFiles, ending_refusal, status_of}
 use Rattle.pm_words.specs.Sides.{DiskSide, Found, files_found}
-use Rattle.pm_words.proofs.Asked.{script_apart}
+use Rattle.pm_words.proofs.Asked.{rules_apart, script_apart}
 use Rattle.pm_runs.specs.Runners.{Runner}
 use Rattle.pm_runs.specs.Scripts.{runs_script}
 use Rattle.pm_runs.specs.commands.make.{making}
@@ -64,9 +64,12 @@ only_retire Recover input f volume t = absurd t
 only_retire (At moment) input f volume t = absurd ((at_fits moment).only f (Live volume) t)
 only_retire (Range from to) input f volume t = absurd ((range_fits from to).only f (Live volume) t)
 only_retire (Value asked) input f volume t = absurd ((value_fits asked).only f (Live volume) t)
+only_retire (Watch from to) input f volume t = absurd (dump_fits.only f (Live volume) t)
 only_retire (Record asked) input f volume t = absurd t
 only_retire (Serve count) input f volume t = absurd t
 only_retire (Pull asked) input f volume t = absurd t
+only_retire (Extract limit) input f volume t = absurd t
+only_retire (Summary asked) input f volume t = absurd t
 
 -- ---- which archives are live
 
@@ -124,6 +127,7 @@ module _ (words : List (List ℕ)) (s : SourceSide) (k : SinkSide) (d : DiskSide
   fourteen : (e : Refusal) (front : List ℕ) → Cause words s d e → HasBegun words s d e front → status_of e ≡ 14 → Only
   fourteen (Live volume) front c begun h = told volume front c begun
   fourteen (Script fault) front c begun h = absurd (script_apart 14 (λ n. omega (arith, n)) (λ n. omega (arith, n)) fault.fault h)
+  fourteen (Rules fault) front c begun h = absurd (rules_apart 14 (λ n. omega (arith, n)) (λ n. omega (arith, n)) fault.fault h)
   fourteen _ front c begun h = absurd (omega (arith, h))
 
   only : (status : ℕ) → Ends words s k d status → status ≡ 14 → Only

@@ -15,16 +15,17 @@ use Rattle.run_passes.specs.declared.opening.Opened.{Opened}
 use Rattle.pm_words.specs.declared.words.Call.TheVariants as calls
 use Rattle.pm_words.specs.declared.words.Command.{Command}
 use Rattle.pm_words.specs.declared.words.Command.TheVariants.{Check, Retire}
+use Rattle.rule_watch.specs.declared.fault.RuleFault.{RuleFault}
 use Rattle.run_script.specs.declared.fault.ScriptFault.{ScriptFault}
 use Rattle.script_runs.specs.declared.ending.LimitKind.{LimitKind}
 use Rattle.pm_words.specs.declared.refusal.Refusal.{Refusal}
-use Rattle.pm_words.specs.declared.refusal.Refusal.TheVariants.{Script, Condition, Limit, NotLater, Changed, Compressed, Nothing, Live}
+use Rattle.pm_words.specs.declared.refusal.Refusal.TheVariants.{Script, Rules, Condition, Limit, NotLater, Changed, Compressed, Nothing, Live}
 use Rattle.pm_words.specs.Asking.{IsInputless, ReadingIsExact, UsageIsExact}
 use Rattle.pm_words.specs.Reading.{IsAbove}
 use Rattle.pm_words.specs.CommandLine.{asked_by, takes_input}
 use Rattle.pm_words.specs.Inputs.{input_limit, refusal_of}
 use Rattle.pm_words.specs.Meaning.{Meaning}
-use Rattle.pm_words.specs.Refusals.{IsOfRun, script_status, status_of}
+use Rattle.pm_words.specs.Refusals.{IsOfRun, rule_status, script_status, status_of}
 use Rattle.pm_words.specs.Serving.{HadRecovered}
 use Rattle.pm_words.specs.Sides.{DiskSide, Found, disk_side, files_found, IsUnread, Leaves, Untouched}
 use Rattle.pm_words.specs.Sound.{LeavesSound}
@@ -51,12 +52,13 @@ pub record TurnsAway (words : List (List ℕ)) (s : SourceSide) (d : DiskSide) (
   pub turned : d.tells → (meaning asks.command).turns_away asks.input (files_found d) e
 
 -- 7 where a command that reads an input is given more than 16 MiB; one byte above the limit is taken, and no further one. Else it
--- comes only where a script has too many regions, a tick asks for too many metrics, a record is too long, or a file of the archive is
--- full.
+-- comes only where a script has too many regions, a text of rules has too many of these, a tick asks for too many metrics, a record is too
+-- long, or a file of the archive is full.
 abbrev pub LimitCause : List (List ℕ) → SourceSide → DiskSide → Type 0
 LimitCause words s d =
     (IsReader words × IsAbove s)
-    ⊎ (((fault : ScriptFault) × (script_status fault.fault ≡ 7) × Finds words s (Script fault)) ⊎ ((what : LimitKind) × (number : ℕ) × TurnsAway words s d (Limit what number)))
+    ⊎ (((fault : ScriptFault) × (script_status fault.fault ≡ 7) × Finds words s (Script fault))
+    ⊎ (((fault : RuleFault) × (rule_status fault.fault ≡ 7) × Finds words s (Rules fault)) ⊎ ((what : LimitKind) × (number : ℕ) × TurnsAway words s d (Limit what number))))
 
 -- what the source gives: all that it has left, within the limit, or nothing to a command that takes no input
 abbrev pub GivesInput : Bool → SourceSide → List ℕ → Type 0
@@ -74,8 +76,9 @@ pub record IsGiven (words : List (List ℕ)) (s : SourceSide) : Type 0 where
 abbrev pub refused_of : {words : List (List ℕ)} {s : SourceSide} → IsGiven words s → Option Refusal
 refused_of a = refusal_of (meaning a.command).reads a.input
 
--- 2 only where the input isn't what the command reads: no image, no layout text, or no script; or where the condition of a script's
--- line fails in the run. An input that is refused always has its refusal's status: 2, or 7 where a script has too many regions.
+-- 2 only where the input isn't what the command reads: no image, no layout text, no script, or no text of rules; or where the condition of a
+-- script's line fails in the run. An input that is refused always has its refusal's status: 2, or 7 where a script has too many regions, or a
+-- text of rules too many of these.
 pub record InputFaultIsExact (words : List (List ℕ)) (s : SourceSide) (d : DiskSide) (status : ℕ) : Type 0 where
   pub only : status ≡ 2 → ((e : Refusal) × (status_of e ≡ 2) × Finds words s e) ⊎ ((line : ℕ) × TurnsAway words s d (Condition line))
   pub always : (a : IsGiven words s) → (e : Refusal) → refused_of a ≡ Some e → (status ≡ status_of e) ⊎ ((status ≡ 9) ⊎ (status ≡ 3))

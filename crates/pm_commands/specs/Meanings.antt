@@ -1,7 +1,7 @@
 -- The meaning of each command. Where a new one goes: its variant and its words in pm_words, its meaning here, its body in `serve`.
 use Rattle.std.specs.Prelude.{Bool, true, [], None}
 use Rattle.pm_words.specs.declared.words.Command.{Command}
-use Rattle.pm_words.specs.declared.words.Command.TheVariants.{Once, Replay, Make, Retire, MmvMake, MmvDump, MmvLift, Dump, Info, Check, Recover, At, Range, Value, Record, Serve, Pull}
+use Rattle.pm_words.specs.declared.words.Command.TheVariants.{Once, Replay, Make, Retire, MmvMake, MmvDump, MmvLift, Dump, Info, Check, Recover, At, Range, Value, Watch, Record, Serve, Pull, Extract, Summary}
 use Rattle.pm_words.specs.Meaning.{Meaning, converts}
 use Rattle.pm_tasks.specs.commands.at.{at}
 use Rattle.pm_tasks.specs.commands.check.{check}
@@ -17,6 +17,7 @@ use Rattle.pm_tasks.specs.commands.range.{range}
 use Rattle.pm_runs.specs.commands.replay.{replay}
 use Rattle.pm_runs.specs.commands.retire.{retire}
 use Rattle.pm_tasks.specs.commands.value.{value}
+use Rattle.pm_tasks.specs.commands.watch.{watch}
 
 -- a command of another call, for which this one is never asked
 abbrev pub other : Meaning
@@ -37,12 +38,16 @@ meaning Recover = recover
 meaning (At t) = at t
 meaning (Range from to) = range from to
 meaning (Value asked) = value asked
+meaning (Watch from to) = watch from to
 meaning (Record asked) = other
 meaning (Serve count) = other
 meaning (Pull asked) = other
+meaning (Extract volume) = other
+meaning (Summary asked) = other
 
--- whether a command writes an archive; `record` and `pull` do, whose meanings are their calls'
+-- whether a command writes an archive; `record`, `pull` and `extract` do, whose meanings are their calls'
 abbrev pub writes_archive : Command → Bool
 writes_archive (Record asked) = true
 writes_archive (Pull asked) = true
+writes_archive (Extract volume) = true
 writes_archive command = (meaning command).writes_archive

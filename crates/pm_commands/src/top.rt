@@ -13,7 +13,7 @@ ghost use Rattle.pm_commands.specs.Running.{Runs};
 use pcp_base::Bytes;
 use pcp_outside::{Disk, Sink, Source};
 use pm_runs::{make, once, recover, replay, retire};
-use pm_tasks::{at, check, dump, info, mmv_dump, mmv_lift, mmv_make, range, value};
+use pm_tasks::{at, check, dump, info, mmv_dump, mmv_lift, mmv_make, range, value, watch};
 use pm_words::{Call, Command, Refusal, ask, tell_end};
 use run_passes::Opened;
 use std::alloc::Global;
@@ -31,6 +31,7 @@ pub fn writes_archive(command: &Command) -> bool
             | Command::Recover
             | Command::Record(_)
             | Command::Pull(_)
+            | Command::Extract(_)
     )
 }
 
@@ -66,8 +67,13 @@ fn serve<O: Sink, D: Disk>(
         Command::At(t) => at(alloc, *t, disk),
         Command::Range(from, to) => range(alloc, *from, *to, disk),
         Command::Value(asked) => value(alloc, asked, disk),
+        Command::Watch(from, to) => watch(alloc, *from, *to, input, disk),
         // They are other calls'.
-        Command::Record(_) | Command::Serve(_) | Command::Pull(_) => { unreachable!() }
+        Command::Record(_)
+        | Command::Serve(_)
+        | Command::Pull(_)
+        | Command::Extract(_)
+        | Command::Summary(_) => { unreachable!() }
     }
 }
 
@@ -91,9 +97,9 @@ fn run<I: Source, O: Sink, D: Disk>(
 }
 
 /// Runs the command that the words are, and answers the exit status; where it isn't 0, the last line of the output says
-/// why it ended. 0: done. 1: the words are no command. 2: the input is no image, no layout text or no script, or the condition
+/// why it ended. 0: done. 1: the words are no command. 2: the input is no image, no layout text, no script or no text of rules, or the condition
 /// of a script's line failed in the run. 3, 4, 5: the source, the sink or the disk failed. 6: the archive is turned away. 7: the
-/// input is above 16 MiB, a script has too many regions, a tick asks for too many metrics, or a record or a file would be too long.
+/// input is above 16 MiB, a script has too many regions, there are too many rules, a tick asks for too many metrics, or a record or a file would be too long.
 /// 9: memory was refused: the files stand as they did, or as recovery or some first lines of the run left them, or the archive as
 /// it was opened. 10: the archive was read, and isn't sound. 11: nothing is there at the moment that was asked for. 12: a result
 /// isn't later than all that the archive has. 13: the archive describes a metric otherwise. 14: the number of `retire` is

@@ -14,7 +14,7 @@ use Rattle.script_runs.specs.declared.ending.Ending.TheVariants as ends
 use Rattle.run_archive.specs.Outcomes.{IsUnrecovered, WentOn, left_of}
 use Rattle.run_archive.specs.Sampling.{HasEnded}
 use Rattle.pm_words.specs.declared.refusal.Refusal.{Refusal}
-use Rattle.pm_words.specs.declared.refusal.Refusal.TheVariants.{Usage, ReadFault, InputLimit, Image, Line, Script as Scripted, Condition, Limit, NoMemory}
+use Rattle.pm_words.specs.declared.refusal.Refusal.TheVariants.{Usage, ReadFault, InputLimit, Image, Line, Rules, Script as Scripted, Condition, Limit, NoMemory}
 use Rattle.pm_words.specs.declared.words.Call.TheVariants as calls
 use Rattle.pm_words.specs.declared.words.Command.{Command}
 use Rattle.pm_words.specs.declared.words.Command.TheVariants.{Record}
@@ -77,6 +77,7 @@ module _ {C D : Type 0} (c : CallSide C D) where
   fault_found (Scripted fault) cause h = (fault, h, cause)
   fault_found (Image fault) cause h = absurd cause
   fault_found (Line fault) cause h = absurd cause
+  fault_found (Rules fault) cause h = absurd cause
   fault_found (Condition line) cause h = absurd cause
   fault_found e cause h = absurd (omega (arith, h))
 
@@ -94,6 +95,7 @@ module _ {C D : Type 0} (c : CallSide C D) where
   limit_early : (e : Refusal) → Cause c.words c.source e → status_of e ≡ 7 → LimitCause c
   limit_early (Scripted fault) cause h = inr (inl (fault, h, cause))
   limit_early InputLimit cause h = inl cause
+  limit_early (Rules fault) cause h = absurd cause
   limit_early (Limit what number) cause h = absurd cause
   limit_early e cause h = absurd (omega (arith, h))
 

@@ -1,8 +1,9 @@
 -- The meanings of the commands are coherent.
+use Rattle.std.proofs.Common.{ℕ, List}
 use Rattle.pcp_base.specs.Time.{Moment}
 use Rattle.pm_words.specs.declared.words.ValueWords.{ValueWords}
 use Rattle.pm_words.proofs.Coherent.{IsCoherent, converts_coherent}
-use Rattle.pm_tasks.specs.Archives.{nothing_before, takes_any}
+use Rattle.pm_tasks.specs.Archives.{looks, nothing_before, takes_any}
 use Rattle.pm_tasks.specs.Takes.{TookAt, TookRange}
 use Rattle.pm_tasks.specs.commands.at as at
 use Rattle.pm_tasks.specs.commands.check as check
@@ -13,8 +14,10 @@ use Rattle.pm_tasks.specs.commands.mmv_lift as mmv_lift
 use Rattle.pm_tasks.specs.commands.mmv_make as mmv_make
 use Rattle.pm_tasks.specs.commands.range as range
 use Rattle.pm_tasks.specs.commands.value as value
-use Rattle.pm_tasks.proofs.Lookings.{check_fits, info_fits, dump_fits, at_fits, range_fits, value_fits, look_coherent, neither, quiet_coherent}
+use Rattle.pm_tasks.specs.commands.watch as watch
+use Rattle.pm_tasks.proofs.Lookings.{check_fits, info_fits, dump_fits, at_fits, range_fits, value_fits, watch_fits, look_coherent, neither, quiet_coherent}
 use Rattle.pm_tasks.proofs.Taken.{took_none}
+use Rattle.pm_tasks.proofs.ReadFirst.{coherent_by}
 use Rattle.pm_tasks.proofs.Nothing.{at_nothing, at_said, value_nothing, value_said}
 
 pub info_coherent : IsCoherent info.info
@@ -34,6 +37,13 @@ at_coherent t = look_coherent (at.IsTurnedAway t) (at.IsOutput t) nothing_before
 
 pub value_coherent : (asked : ValueWords) → IsCoherent (value.value asked)
 value_coherent asked = look_coherent (value.IsTurnedAway asked) (value.IsOutput asked) nothing_before takes_any (value_fits asked) (λ files n. tt) (value_nothing asked) (value_said asked)
+
+-- a watch of each input
+watching : (from to : Moment) (input : List ℕ) → IsCoherent (looks dump.IsTurnedAway (watch.IsOutput from to input) nothing_before takes_any)
+watching from to input = quiet_coherent dump.IsTurnedAway (watch.IsOutput from to input) nothing_before takes_any (watch_fits from to input) (λ files n. tt) (λ f stamp n. neither (λ (a : ⊥). a) (λ b. b.2) n)
+
+pub watch_coherent : (from to : Moment) → IsCoherent (watch.watch from to)
+watch_coherent from to = coherent_by watch.refuses dump.IsTurnedAway (watch.IsOutput from to) takes_any (watching from to)
 
 pub mmv_make_coherent : IsCoherent mmv_make.mmv_make
 mmv_make_coherent = converts_coherent mmv_make.refuses mmv_make.makes

@@ -30,7 +30,7 @@ more_text : (records : List MetaRecord) (items : List Item) (x : Item) → items
 more_text records [] x = append-nil (item_text records x)
 more_text records (y ∷ items) x = ap (λ t. item_text records y ++ t) (more_text records items x) ∙ sym (append_assoc (item_text records y) (items_text records items) (item_text records x))
 
-leads_on : (files : Files) (vs : List (ℕ × ℕ)) (at : ℕ) (items : List Item) (ws : List (ℕ × ℕ)) (to : ℕ) (x : Item) (us : List (ℕ × ℕ)) (next : ℕ) → Leads files vs at items ws to → StepsOver files ws to x us next → Leads files vs at (items ++ x ∷ []) us next
+pub leads_on : (files : Files) (vs : List (ℕ × ℕ)) (at : ℕ) (items : List Item) (ws : List (ℕ × ℕ)) (to : ℕ) (x : Item) (us : List (ℕ × ℕ)) (next : ℕ) → Leads files vs at items ws to → StepsOver files ws to x us next → Leads files vs at (items ++ x ∷ []) us next
 leads_on files vs at [] ws to x us next here step =
     (us, next, subst (λ (v : List (ℕ × ℕ)). StepsOver files v at x us next) here.0 (subst (λ n. StepsOver files ws n x us next) here.1 step), (refl, refl))
 leads_on files vs at (y ∷ items) ws to x us next (vs_next, n, first, more) step = (vs_next, n, first, leads_on files vs_next n items ws to x us next more step)

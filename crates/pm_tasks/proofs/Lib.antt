@@ -3,7 +3,11 @@ pub mod Checked
 pub mod Coherent
 pub mod Converted
 pub mod Dumped
+pub mod Entries
+pub mod Firings
 pub mod Lookings
 pub mod Nothing
+pub mod ReadFirst
 pub mod Taken
 pub mod Timed
+pub mod Watched

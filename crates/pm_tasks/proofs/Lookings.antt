@@ -24,6 +24,7 @@ use Rattle.pm_tasks.specs.commands.dump as dump
 use Rattle.pm_tasks.specs.commands.info as info
 use Rattle.pm_tasks.specs.commands.range as range
 use Rattle.pm_tasks.specs.commands.value as value
+use Rattle.pm_tasks.specs.commands.watch as watch
 
 -- the refusals of such a command
 abbrev pub IsOfLook : Refusal → Type 0
@@ -122,6 +123,10 @@ range_only from to r f _ b = absurd b
 
 pub range_fits : (from to : Moment) → FitsLook (range.IsTurnedAway from to) (range.IsOutput from to)
 range_fits from to = asked_fits (range.IsStopped from to) (range.IsOutput from to) (range_only from to) (λ r f file b. b) (λ f text s. s.1.unwrapped)
+
+-- a watch of an input turns away what a dump does
+pub watch_fits : (from to : Moment) (input : List ℕ) → FitsLook dump.IsTurnedAway (watch.IsOutput from to input)
+watch_fits from to input = asked_fits dump.BadRecord (watch.IsOutput from to input) bad_only (λ r f file b. b) (λ f text s. s.2.1.unwrapped)
 
 value_only : (asked : ValueWords) (r : Loaded) (f : Found) (e : Refusal) → value.IsStopped asked r f e → IsOfLook e
 value_only asked r f (NotArchive file at) b = tt

@@ -1,6 +1,6 @@
 -- Commands that only read an archive: what they find of the files, why they turn files away, and that they leave the disk as
 -- it was.
-use Rattle.std.specs.Prelude.{◌≡◌, ◌⊎◌, ℕ, true, false, List, [], Some, None}
+use Rattle.std.specs.Prelude.{◌≡◌, ◌⊎◌, ℕ, true, false, List, [], Option, Some, None}
 use Rattle.pcp_base.specs.declared.result.Item.{Item}
 use Rattle.pcp_model.specs.Archive.{ArchiveReading, Reads, scan}
 use Rattle.pcp_model.specs.Disk.{Files}
@@ -66,6 +66,25 @@ looks turned said first taken = record {
   done = λ input d. Untouched d;
   says = λ input d text. d.tells → said (files_found d) text;
   begins = λ input d e front. first d front;
+  keeps = λ input held crash. Unit {0};
+  begun = λ status input d. ⊥;
+  may_leave = λ input held crash. ⊥;
+  takes = taken;
+  since = λ g input old new. Unit {0};
+  ran = λ g input old new opened front answer. opened ≡ None;
+}
+
+-- one that reads an input first, by which it looks, and writes nothing before it is done
+abbrev pub looks_by : (List ℕ → Option Refusal) → (Found → Refusal → Type 0) → (List ℕ → Found → List ℕ → Type 0) → (Files → ℕ → ℕ → Type 0) → Meaning
+looks_by refuses turned said taken = record {
+  reads = Some refuses;
+  uses_disk = true;
+  writes_archive = false;
+  runs_script = false;
+  turns_away = λ input files e. turned files e;
+  done = λ input d. Untouched d;
+  says = λ input d text. d.tells → said input (files_found d) text;
+  begins = λ input d e front. nothing_before d front;
   keeps = λ input held crash. Unit {0};
   begun = λ status input d. ⊥;
   may_leave = λ input held crash. ⊥;

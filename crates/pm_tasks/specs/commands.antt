@@ -7,3 +7,4 @@ pub mod mmv_lift
 pub mod mmv_make
 pub mod range
 pub mod value
+pub mod watch

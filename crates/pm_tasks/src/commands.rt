@@ -9,3 +9,4 @@ pub(crate) mod mmv_lift;
 pub(crate) mod mmv_make;
 pub(crate) mod range;
 pub(crate) mod value;
+pub(crate) mod watch;

@@ -3,6 +3,7 @@
 #![tactic(auto)]
 
 mod commands;
+mod rows;
 
 pub use commands::at::at;
 pub use commands::check::check;
@@ -13,3 +14,4 @@ pub use commands::mmv_lift::mmv_lift;
 pub use commands::mmv_make::mmv_make;
 pub use commands::range::range;
 pub use commands::value::value;
+pub use commands::watch::watch;

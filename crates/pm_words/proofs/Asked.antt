@@ -5,13 +5,15 @@ use Rattle.pcp_outside.specs.Sides.{SourceSide, SinkSide}
 use Rattle.pm_words.specs.declared.words.Call.{Call}
 use Rattle.pm_words.specs.declared.words.Command.{Command}
 use Rattle.pm_words.specs.declared.refusal.Refusal.{Refusal}
-use Rattle.pm_words.specs.declared.refusal.Refusal.TheVariants.{Usage, ReadFault, InputLimit, Image, Line, Script, Condition, NoMemory}
+use Rattle.pm_words.specs.declared.refusal.Refusal.TheVariants.{Usage, ReadFault, InputLimit, Image, Line, Script, Rules, Condition, NoMemory}
+use Rattle.rule_watch.specs.declared.fault.RuleLineFault.{RuleLineFault}
+use Rattle.rule_watch.specs.declared.fault.RuleLineFault.TheVariants as rule
 use Rattle.run_script.specs.declared.fault.ScriptLineFault.{ScriptLineFault}
 use Rattle.run_script.specs.declared.fault.ScriptLineFault.TheVariants as script
 use Rattle.pm_words.specs.Asking.{Asks, Before, Got, IsReader, ReadingIsExact, UsageIsExact}
 use Rattle.pm_words.specs.CommandLine.{asked_by, takes_input}
 use Rattle.pm_words.specs.Inputs.{input_limit}
-use Rattle.pm_words.specs.Refusals.{script_status, status_of}
+use Rattle.pm_words.specs.Refusals.{rule_status, script_status, status_of}
 use Rattle.pm_words.specs.Telling.{IsToldBy, TellsAll}
 
 -- Statuses of 1, 3 and 4 are those of the words, of the reading and of the sink alone.
@@ -19,6 +21,11 @@ use Rattle.pm_words.specs.Telling.{IsToldBy, TellsAll}
 pub script_apart : (n : ℕ) → (n ≡ 2 → ⊥) → (n ≡ 7 → ⊥) → (fault : ScriptLineFault) → script_status fault ≡ n → ⊥
 script_apart n two seven (script.Line found) h = two (sym h)
 script_apart n two seven script.Regions h = seven (sym h)
+
+pub rules_apart : (n : ℕ) → (n ≡ 2 → ⊥) → (n ≡ 7 → ⊥) → (fault : RuleLineFault) → rule_status fault ≡ n → ⊥
+rules_apart n two seven rule.Grammar h = two (sym h)
+rules_apart n two seven rule.Condition h = two (sym h)
+rules_apart n two seven rule.Many h = seven (sym h)
 
 -- a refusal that a command's body may answer
 abbrev pub IsOfBody : Refusal → Type 0
@@ -33,6 +40,7 @@ low_body n low two ReadFault body h = body
 low_body n low two (Image fault) body h = two (sym h)
 low_body n low two (Line fault) body h = two (sym h)
 low_body n low two (Script fault) body h = script_apart n two (λ k. omega (arith, k, low)) fault.fault h
+low_body n low two (Rules fault) body h = rules_apart n two (λ k. omega (arith, k, low)) fault.fault h
 low_body n low two (Condition line) body h = two (sym h)
 low_body n low two _ body h = omega (arith, low, h)
 
@@ -70,11 +78,13 @@ module _ (call : Call) (words : List (List ℕ)) (s : SourceSide) where
   usage_of : (e : Refusal) → Before call words s e → status_of e ≡ 1 → (at : ℕ) × (asked_by call words ≡ Err at)
   usage_of (Usage at) before h = (at, before.0)
   usage_of (Script fault) before h = absurd before
+  usage_of (Rules fault) before h = absurd before
   usage_of _ before h = absurd (omega (arith, h))
 
   fault_of : (e : Refusal) → Before call words s e → status_of e ≡ 3 → Rose s.faults s.faults_after
   fault_of ReadFault before h = before.1.0
   fault_of (Script fault) before h = absurd before
+  fault_of (Rules fault) before h = absurd before
   fault_of _ before h = absurd (omega (arith, h))
 
   -- bad words have no other end
@@ -132,6 +142,7 @@ module _ (call : Call) (words : List (List ℕ)) (s : SourceSide) where
 -- no refusal has the status 4
 pub never_four : (e : Refusal) → status_of e ≡ 4 → ⊥
 never_four (Script fault) h = script_apart 4 (λ k. omega (arith, k)) (λ k. omega (arith, k)) fault.fault h
+never_four (Rules fault) h = rules_apart 4 (λ k. omega (arith, k)) (λ k. omega (arith, k)) fault.fault h
 never_four _ h = omega (arith, h)
 
 -- 4 only where the sink's count rose

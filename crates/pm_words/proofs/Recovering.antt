@@ -3,12 +3,14 @@ use Rattle.std.proofs.Common.{◌≡◌, inl, inr, ℕ, Bool, true, false, ◌==
 use Rattle.pcp_outside.specs.Sides.{SourceSide}
 use Rattle.pm_words.specs.declared.words.Call.{Call}
 use Rattle.pm_words.specs.declared.refusal.Refusal.{Refusal}
-use Rattle.pm_words.specs.declared.refusal.Refusal.TheVariants.{Usage, ReadFault, InputLimit, Image, Line, Script, Condition, Limit, NotLater, Changed, Compressed, NotArchive, Nothing, UnsoundItems, UnsoundBoundary, UnsoundLate, Live, DiskFault, ClockEnd, ClockFault, Accept, Peer, NoMemory}
+use Rattle.pm_words.specs.declared.refusal.Refusal.TheVariants.{Usage, ReadFault, InputLimit, Image, Line, Script, Rules, Condition, Limit, NotLater, Changed, Compressed, NotArchive, Nothing, UnsoundItems, UnsoundBoundary, UnsoundLate, Live, DiskFault, ClockEnd, ClockFault, Accept, Peer, Lacks, Clashes, NoMemory}
+use Rattle.rule_watch.specs.declared.fault.RuleLineFault.{RuleLineFault}
+use Rattle.rule_watch.specs.declared.fault.RuleLineFault.TheVariants as rule
 use Rattle.run_script.specs.declared.fault.ScriptLineFault.{ScriptLineFault}
 use Rattle.run_script.specs.declared.fault.ScriptLineFault.TheVariants as script
 use Rattle.pm_words.specs.Asking.{Before}
 use Rattle.pm_words.specs.Inputs.{Refuses}
-use Rattle.pm_words.specs.Refusals.{script_status, status_of}
+use Rattle.pm_words.specs.Refusals.{rule_status, script_status, status_of}
 use Rattle.pm_words.specs.Serving.{HasRecovered, HadRecovered}
 
 -- the words and the reading are looked at before, and so is the input
@@ -23,6 +25,7 @@ pub no_input_yet : (reads : Option (List ℕ → Option Refusal)) (input : List 
 no_input_yet reads input (Image fault) refuses h = h
 no_input_yet reads input (Line fault) refuses h = h
 no_input_yet reads input (Script fault) refuses h = h
+no_input_yet reads input (Rules fault) refuses h = h
 no_input_yet reads input NoMemory refuses h = h
 no_input_yet reads input _ refuses h = refuses
 
@@ -45,6 +48,11 @@ by_script : (fault : ScriptLineFault) → HadRecovered (script_status fault) →
 by_script (script.Line fault) h = early 2 refl h
 by_script script.Regions h = early 7 refl h
 
+by_rules : (fault : RuleLineFault) → HadRecovered (rule_status fault) → ⊥
+by_rules rule.Grammar h = early 2 refl h
+by_rules rule.Condition h = early 2 refl h
+by_rules rule.Many h = early 7 refl h
+
 pub by_status : (e : Refusal) → HadRecovered (status_of e) → HasRecovered (Err e)
 by_status (Usage at) h = absurd (early 1 refl h)
 by_status ReadFault h = absurd (early 3 refl h)
@@ -52,6 +60,7 @@ by_status InputLimit h = absurd (early 7 refl h)
 by_status (Image fault) h = absurd (early 2 refl h)
 by_status (Line fault) h = absurd (early 2 refl h)
 by_status (Script fault) h = absurd (by_script fault.fault h)
+by_status (Rules fault) h = absurd (by_rules fault.fault h)
 by_status (Compressed file) h = absurd (early 6 refl h)
 by_status (NotArchive file at) h = absurd (early 6 refl h)
 by_status (Nothing stamp) h = absurd (early 11 refl h)
@@ -62,6 +71,8 @@ by_status (Live volume) h = absurd (early 14 refl h)
 by_status DiskFault h = absurd (early 5 refl h)
 by_status Accept h = absurd (early 21 refl h)
 by_status (Peer reply why) h = absurd (early 16 refl h)
+by_status (Lacks source pmid) h = absurd (early 18 refl h)
+by_status (Clashes pmid) h = absurd (early 19 refl h)
 by_status NoMemory h = absurd (early 9 refl h)
 by_status _ h = tt
 

@@ -7,7 +7,7 @@ use Rattle.text_lines.specs.Numbers.{number_of}
 use Rattle.pm_words.specs.declared.words.Command.{Command}
 use Rattle.pm_words.specs.declared.words.Call.{Call}
 use Rattle.pm_words.specs.declared.words.Call.TheVariants as calls
-use Rattle.pm_words.specs.declared.words.Command.TheVariants.{Once, Replay, Make, Retire, MmvMake, MmvDump, MmvLift, Dump, Info, Check, Recover, At, Range, Value, Record, Serve, Pull}
+use Rattle.pm_words.specs.declared.words.Command.TheVariants.{Once, Replay, Make, Retire, MmvMake, MmvDump, MmvLift, Dump, Info, Check, Recover, At, Range, Value, Watch, Record, Serve, Pull, Extract, Summary}
 use Rattle.pm_words.specs.declared.refusal.Refusal.{Refusal}
 use Rattle.pm_words.specs.declared.refusal.Refusal.TheVariants.{Usage, NoMemory}
 use Rattle.pm_words.specs.declared.words.BadWord.{BadWord}
@@ -109,7 +109,7 @@ stamp_then at words = do
   usec ← word_then microsecond_of (at + 1) sec.1
   Ok (record { sec = sec.0; usec = usec.0 }, usec.1)
 
--- SEC USEC; SEC USEC SEC USEC; SEC USEC NAME
+-- SEC USEC; SEC USEC SEC USEC, also of `watch`; SEC USEC NAME
 unfoldable pub at_of : List (List ℕ) → Result Command ℕ
 at_of words = do
   t ← stamp_then 1 words
@@ -120,6 +120,12 @@ range_of words = do
   from ← stamp_then 1 words
   to ← stamp_then 3 from.1
   end_then (Range from.0 to.0) 5 to.1
+
+unfoldable pub watch_of : List (List ℕ) → Result Command ℕ
+watch_of words = do
+  from ← stamp_then 1 words
+  to ← stamp_then 3 from.1
+  end_then (Watch from.0 to.0) 5 to.1
 
 unfoldable pub value_of : List (List ℕ) → Result Command ℕ
 value_of words = do
@@ -147,7 +153,8 @@ abbrev pub timed_command_of : List ℕ → List (List ℕ) → Result Command �
 timed_command_of word words =
     if bytes_eq word (codes "at") then at_of words else
     if bytes_eq word (codes "range") then range_of words else
-    if bytes_eq word (codes "value") then value_of words else archive_command_of word words
+    if bytes_eq word (codes "value") then value_of words else
+    if bytes_eq word (codes "watch") then watch_of words else archive_command_of word words
 
 -- those that run something over an archive, or let old volumes of it go
 abbrev pub run_command_of : List ℕ → List (List ℕ) → Result Command ℕ
@@ -190,13 +197,29 @@ pull_of words = do
   names ← names_then 3 volume.1
   Ok (Pull record { samples = samples.0; volume = volume.0; names = names })
 
--- the call that the first word names; these three have calls of their own
+-- VOLUME
+unfoldable pub extract_of : List (List ℕ) → Result Command ℕ
+extract_of words = do
+  volume ← word_then volume_of 1 words
+  end_then (Extract volume.0) 2 volume.1
+
+-- WORKERS SEC USEC SEC USEC
+unfoldable pub summary_of : List (List ℕ) → Result Command ℕ
+summary_of words = do
+  workers ← word_then (number_in 1 64) 1 words
+  from ← stamp_then 2 workers.1
+  to ← stamp_then 4 from.1
+  end_then (Summary record { workers = workers.0; from = from.0; to = to.0 }) 6 to.1
+
+-- the call that the first word names; these five have calls of their own
 abbrev pub call_named : List (List ℕ) → Call
 call_named [] = calls.Offline
 call_named (word ∷ words) =
     if bytes_eq word (codes "record") then calls.Record else
     if bytes_eq word (codes "serve") then calls.Serve else
-    if bytes_eq word (codes "pull") then calls.Pull else calls.Offline
+    if bytes_eq word (codes "pull") then calls.Pull else
+    if bytes_eq word (codes "extract") then calls.Extract else
+    if bytes_eq word (codes "summary") then calls.Summary else calls.Offline
 
 -- The command that the words ask a call for, or the index of the first word that is bad or missing. A command that isn't known, or is
 -- another call's, is bad at 0.
@@ -206,12 +229,16 @@ asked_by calls.Offline (word ∷ words) = run_command_of word words
 asked_by calls.Record (word ∷ words) = if bytes_eq word (codes "record") then record_of words else Err 0
 asked_by calls.Serve (word ∷ words) = if bytes_eq word (codes "serve") then serve_of words else Err 0
 asked_by calls.Pull (word ∷ words) = if bytes_eq word (codes "pull") then pull_of words else Err 0
+asked_by calls.Extract (word ∷ words) = if bytes_eq word (codes "extract") then extract_of words else Err 0
+asked_by calls.Summary (word ∷ words) = if bytes_eq word (codes "summary") then summary_of words else Err 0
 
 -- the call that does a command
 abbrev pub call_of : Command → Call
 call_of (Record asked) = calls.Record
 call_of (Serve count) = calls.Serve
 call_of (Pull asked) = calls.Pull
+call_of (Extract volume) = calls.Extract
+call_of (Summary asked) = calls.Summary
 call_of _ = calls.Offline
 
 -- whether a command takes an input
@@ -221,6 +248,7 @@ takes_input (Replay volume) = true
 takes_input MmvMake = true
 takes_input MmvDump = true
 takes_input MmvLift = true
+takes_input (Watch from to) = true
 takes_input (Record asked) = true
 takes_input (Serve count) = true
 takes_input _ = false
@@ -250,4 +278,6 @@ FitsCommand (Retire below) = below ≤ 10000
 FitsCommand (Record asked) = (1 ≤ asked.samples) × (asked.samples ≤ 100000) × (1024 ≤ asked.volume) × (asked.volume ≤ 1073741824)
 FitsCommand (Serve count) = (1 ≤ count) × (count ≤ 100000)
 FitsCommand (Pull asked) = (1 ≤ asked.samples) × (asked.samples ≤ 100000) × (1024 ≤ asked.volume) × (asked.volume ≤ 1073741824) × AreAskedNames asked.names
+FitsCommand (Extract volume) = (1024 ≤ volume) × (volume ≤ 1073741824)
+FitsCommand (Summary asked) = (1 ≤ asked.workers) × (asked.workers ≤ 64)
 FitsCommand _ = Unit {0}

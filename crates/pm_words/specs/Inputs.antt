@@ -2,10 +2,12 @@
 use Rattle.std.specs.Prelude.{◌≡◌, ℕ, List, [], Option, Some, None, Result, Ok, Err}
 use Rattle.mmv_layout.specs.declared.fault.ImageFault.{ImageFault}
 use Rattle.mmv_writer.specs.declared.line_fault.TextFault.{TextFault}
+use Rattle.rule_watch.specs.declared.fault.RuleFault.{RuleFault}
+use Rattle.rule_watch.specs.declared.rule.Rule.{Rule}
 use Rattle.run_script.specs.declared.fault.ScriptFault.{ScriptFault}
 use Rattle.run_script.specs.declared.script.Script.{Script}
 use Rattle.pm_words.specs.declared.refusal.Refusal.{Refusal}
-use Rattle.pm_words.specs.declared.refusal.Refusal.TheVariants.{Image, Line, Script as Scripted}
+use Rattle.pm_words.specs.declared.refusal.Refusal.TheVariants.{Image, Line, Rules, Script as Scripted}
 use Rattle.pm_words.specs.Refusals.{Stage, AtInput, AtMemory, stage_of}
 
 -- An input is limited to 16 MiB.
@@ -26,6 +28,11 @@ text_refusal (Err fault) = Some (Line fault)
 abbrev pub script_refusal : Result Script ScriptFault → Option Refusal
 script_refusal (Ok script) = None
 script_refusal (Err fault) = Some (Scripted fault)
+
+-- a command that reads rules
+abbrev pub rules_refusal : Result (List Rule) RuleFault → Option Refusal
+rules_refusal (Ok rules) = None
+rules_refusal (Err fault) = Some (Rules fault)
 
 -- what is made of words, and nothing of a fault
 abbrev pub made_of : {F : Type 0} → (List ℕ → List ℕ) → Result (List ℕ) F → List ℕ

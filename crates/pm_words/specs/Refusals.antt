@@ -13,6 +13,8 @@ use Rattle.archive_recovery.specs.declared.outcome.RecoverFault.TheVariants as r
 use Rattle.pm_print.specs.FaultLines.{image_line, text_line}
 use Rattle.pm_print.specs.Sets.{pmid_text}
 use Rattle.mmv_writer.specs.declared.line_fault.LineFault.TheVariants as lines
+use Rattle.rule_watch.specs.declared.fault.RuleLineFault.{RuleLineFault}
+use Rattle.rule_watch.specs.declared.fault.RuleLineFault.TheVariants as rule
 use Rattle.run_script.specs.declared.fault.ScriptLineFault.{ScriptLineFault}
 use Rattle.run_script.specs.declared.fault.ScriptLineFault.TheVariants as script
 use Rattle.script_runs.specs.declared.ending.Ending.{Ending}
@@ -22,12 +24,18 @@ use Rattle.script_runs.specs.declared.ending.LimitKind.TheVariants as kinds
 use Rattle.pm_words.specs.declared.refusal.PeerFault.{PeerFault}
 use Rattle.pm_words.specs.declared.refusal.PeerFault.TheVariants as peers
 use Rattle.pm_words.specs.declared.refusal.Refusal.{Refusal}
-use Rattle.pm_words.specs.declared.refusal.Refusal.TheVariants.{Usage, ReadFault, InputLimit, Image, Line, Script, Condition, Limit, NotLater, Changed, Compressed, NotArchive, Nothing, UnsoundItems, UnsoundBoundary, UnsoundLate, Live, DiskFault, ClockEnd, ClockFault, Accept, Peer, NoMemory}
+use Rattle.pm_words.specs.declared.refusal.Refusal.TheVariants.{Usage, ReadFault, InputLimit, Image, Line, Script, Rules, Condition, Limit, NotLater, Changed, Compressed, NotArchive, Nothing, UnsoundItems, UnsoundBoundary, UnsoundLate, Live, DiskFault, ClockEnd, ClockFault, Accept, Peer, Lacks, Clashes, NoMemory}
 
 -- of a script that has too many regions the limit is told
 abbrev pub script_status : ScriptLineFault → ℕ
 script_status (script.Line fault) = 2
 script_status script.Regions = 7
+
+-- of a text that has too many rules the limit is told
+abbrev pub rule_status : RuleLineFault → ℕ
+rule_status rule.Grammar = 2
+rule_status rule.Condition = 2
+rule_status rule.Many = 7
 
 abbrev pub status_of : Refusal → ℕ
 status_of (Usage at) = 1
@@ -36,6 +44,7 @@ status_of InputLimit = 7
 status_of (Image fault) = 2
 status_of (Line fault) = 2
 status_of (Script fault) = script_status fault.fault
+status_of (Rules fault) = rule_status fault.fault
 status_of (Condition line) = 2
 status_of (Limit what number) = 7
 status_of (NotLater last) = 12
@@ -52,11 +61,18 @@ status_of (ClockEnd left) = 8
 status_of (ClockFault left) = 20
 status_of Accept = 21
 status_of (Peer reply why) = 16
+status_of (Lacks source pmid) = 18
+status_of (Clashes pmid) = 19
 status_of NoMemory = 9
 
 abbrev pub script_line : ℕ → ScriptLineFault → List ℕ
 script_line line (script.Line fault) = text_line line fault
 script_line line script.Regions = codes "limit regions 65\n"
+
+abbrev pub rule_line : ℕ → RuleLineFault → List ℕ
+rule_line line rule.Grammar = text_line line lines.Grammar
+rule_line line rule.Condition = text_line line lines.Condition
+rule_line line rule.Many = codes "limit rules 65\n"
 
 -- what there is too much of
 abbrev pub limit_name : LimitKind → List ℕ
@@ -89,6 +105,7 @@ line_of InputLimit = codes "limit input 16777217\n"
 line_of (Image fault) = image_line fault
 line_of (Line fault) = text_line fault.line fault.fault
 line_of (Script fault) = script_line fault.line fault.fault
+line_of (Rules fault) = rule_line fault.line fault.fault
 line_of (Condition line) = text_line line lines.Condition
 line_of (Limit what number) = codes "limit " ++ (limit_name what ++ (32 ∷ (decimal number ++ 10 ∷ [])))
 line_of (NotLater last) = codes "not later " ++ (decimal last.sec ++ (32 ∷ (decimal last.usec ++ 10 ∷ [])))
@@ -107,6 +124,8 @@ line_of (ClockEnd left) = codes "clock end " ++ (decimal left ++ 10 ∷ [])
 line_of (ClockFault left) = codes "clock fault " ++ (decimal left ++ 10 ∷ [])
 line_of Accept = codes "accept fault\n"
 line_of (Peer reply why) = codes "peer " ++ (decimal reply ++ (32 ∷ (peer_fault why ++ 10 ∷ [])))
+line_of (Lacks source pmid) = codes "lacks " ++ (decimal source ++ (32 ∷ (pmid_text pmid ++ 10 ∷ [])))
+line_of (Clashes pmid) = codes "clash " ++ (pmid_text pmid ++ 10 ∷ [])
 line_of NoMemory = []
 
 -- its line has a number or a name, so that making it takes memory
@@ -119,7 +138,7 @@ IsNumbered NoMemory = ⊥
 IsNumbered _ = Unit {0}
 
 -- What a call looks at when it is refused: its words, the reading of an input, the input, the files (recovered, read, or run over), the disk
--- as a device, the clock, the doors, the replies of a peer; or memory, at any place.
+-- as a device, the clock, the doors, the replies of a peer, the merge of two archives; or memory, at any place.
 pub data Stage : Type 0 where
   AtWords : Stage
   AtReading : Stage
@@ -129,6 +148,7 @@ pub data Stage : Type 0 where
   AtClock : Stage
   AtDoors : Stage
   AtReplies : Stage
+  AtMerge : Stage
   AtMemory : Stage
 
 abbrev pub stage_of : Refusal → Stage
@@ -138,11 +158,14 @@ stage_of InputLimit = AtReading
 stage_of (Image fault) = AtInput
 stage_of (Line fault) = AtInput
 stage_of (Script fault) = AtInput
+stage_of (Rules fault) = AtInput
 stage_of DiskFault = AtDisk
 stage_of (ClockEnd left) = AtClock
 stage_of (ClockFault left) = AtClock
 stage_of Accept = AtDoors
 stage_of (Peer reply why) = AtReplies
+stage_of (Lacks source pmid) = AtMerge
+stage_of (Clashes pmid) = AtMerge
 stage_of NoMemory = AtMemory
 stage_of _ = AtFiles
 

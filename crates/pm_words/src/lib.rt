@@ -15,5 +15,6 @@ pub use inputs::read_input;
 pub use output::{send, tell_end};
 pub use refusal::{PeerFault, Refusal, of_ending};
 pub use words::{
-    Call, Command, MakeWords, OnceWords, PullWords, RecordWords, ValueWords, read_words,
+    Call, Command, MakeWords, OnceWords, PullWords, RecordWords, SummaryWords, ValueWords,
+    read_words,
 };

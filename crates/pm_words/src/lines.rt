@@ -1,11 +1,13 @@
 //! The last lines of refusals that have a number or a name.
 ghost use Rattle.std.specs.Prelude.{◌≡◌, IfOk, string_bytes};
-ghost use Rattle.pm_words.specs.Refusals.{file_name, limit_name, line_of, peer_fault, script_line, script_status};
-ghost use Rattle.pm_words.specs.declared.refusal.Refusal.TheVariants.{Changed, ClockEnd, ClockFault, Compressed, Limit, Live, NotArchive, NotLater, Nothing, Peer, UnsoundBoundary, UnsoundItems, UnsoundLate, Usage};
+ghost use Rattle.pm_words.specs.Refusals.{file_name, limit_name, line_of, peer_fault, rule_line, rule_status, script_line, script_status};
+ghost use Rattle.pm_words.specs.declared.refusal.Refusal.TheVariants.{Changed, Clashes, ClockEnd, ClockFault, Compressed, Lacks, Limit, Live, NotArchive, NotLater, Nothing, Peer, UnsoundBoundary, UnsoundItems, UnsoundLate, Usage};
 
 use crate::refusal::PeerFault;
+use mmv_writer::LineFault;
 use pcp_base::{Bytes, FileId, List, NoMemory, Pmid, Stamp};
 use pm_print::line_fault_text;
+use rule_watch::{RuleFault, RuleLineFault};
 use run_script::{ScriptFault, ScriptLineFault};
 use script_runs::LimitKind;
 use std::alloc::{AllocError, Global};
@@ -34,6 +36,29 @@ pub(crate) fn script_line(alloc: Global, fault: &ScriptFault) -> Result<Bytes, N
         ScriptLineFault::Line(found) => line_fault_text(alloc, fault.line, found),
         ScriptLineFault::Regions => {
             let line = format!(in alloc; "limit regions 65\n")?;
+            Ok(List::from_vec(line.into_bytes()))
+        }
+    }
+}
+
+pub(crate) fn rule_status(fault: &RuleLineFault) -> u8
+    ensures { result ≡ rule_status fault.now }
+{
+    match fault {
+        RuleLineFault::Grammar | RuleLineFault::Condition => 2,
+        RuleLineFault::Many => 7,
+    }
+}
+
+// The line of the first fault of a text of rules.
+pub(crate) fn rule_line(alloc: Global, fault: &RuleFault) -> Result<Bytes, NoMemory>
+    ensures { IfOk result (λ line. line ≡ rule_line fault.now.line fault.now.fault) }
+{
+    match &fault.fault {
+        RuleLineFault::Grammar => line_fault_text(alloc, fault.line, &LineFault::Grammar),
+        RuleLineFault::Condition => line_fault_text(alloc, fault.line, &LineFault::Condition),
+        RuleLineFault::Many => {
+            let line = format!(in alloc; "limit rules 65\n")?;
             Ok(List::from_vec(line.into_bytes()))
         }
     }
@@ -197,5 +222,27 @@ pub(crate) fn peer_line(alloc: Global, reply: u64, why: PeerFault) -> Result<Byt
     let fault = peer_fault(alloc, why)?;
     let fault = fault.as_str();
     let line = format!(in alloc; "peer {reply} {fault}\n")?;
+    Ok(List::from_vec(line.into_bytes()))
+}
+
+#[tactic(auto, unfolding(pm_print::specs::Sets::pmid_text))]
+pub(crate) fn lacks_line(alloc: Global, source: u32, pmid: Pmid) -> Result<Bytes, NoMemory>
+    ensures { IfOk result (λ line. line ≡ line_of (Lacks source pmid)) }
+{
+    let domain = pmid.domain();
+    let cluster = pmid.cluster();
+    let item = pmid.item();
+    let line = format!(in alloc; "lacks {source} {domain}.{cluster}.{item}\n")?;
+    Ok(List::from_vec(line.into_bytes()))
+}
+
+#[tactic(auto, unfolding(pm_print::specs::Sets::pmid_text))]
+pub(crate) fn clash_line(alloc: Global, pmid: Pmid) -> Result<Bytes, NoMemory>
+    ensures { IfOk result (λ line. line ≡ line_of (Clashes pmid)) }
+{
+    let domain = pmid.domain();
+    let cluster = pmid.cluster();
+    let item = pmid.item();
+    let line = format!(in alloc; "clash {domain}.{cluster}.{item}\n")?;
     Ok(List::from_vec(line.into_bytes()))
 }

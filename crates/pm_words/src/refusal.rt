@@ -3,9 +3,10 @@ ghost use Rattle.std.specs.Prelude.{◌≡◌, IfNone, IfOk, IfSome, OnErr, OnOk
 ghost use Rattle.pm_words.specs.Refusals.{IsNumbered, Wrote, ending_refusal, line_of, status_of};
 
 use crate::lines::{
-    changed_line, clock_end_line, clock_fault_line, compressed_line, limit_line, live_line,
-    misfit_line, not_later_line, nothing_line, peer_line, script_line, script_status,
-    unsound_boundary_line, unsound_items_line, unsound_late_line, usage_line,
+    changed_line, clash_line, clock_end_line, clock_fault_line, compressed_line, lacks_line,
+    limit_line, live_line, misfit_line, not_later_line, nothing_line, peer_line, rule_line,
+    rule_status, script_line, script_status, unsound_boundary_line, unsound_items_line,
+    unsound_late_line, usage_line,
 };
 use archive_check::CheckFault;
 use archive_reader::ReaderFault;
@@ -15,6 +16,7 @@ use mmv_writer::{LineFault, TextFault};
 use pcp_base::{Bytes, FileId, NoMemory, Pmid, Stamp};
 use pcp_outside::{Sink, write_all};
 use pm_print::{image_fault_text, line_fault_text};
+use rule_watch::RuleFault;
 use run_script::ScriptFault;
 use script_runs::{Ending, LimitKind};
 use std::alloc::Global;
@@ -36,6 +38,8 @@ pub enum Refusal {
     Line(TextFault),
     /// The input is no script.
     Script(ScriptFault),
+    /// The input is no text of rules.
+    Rules(RuleFault),
     /// The condition of this line of the script fails in its run.
     Condition {
         line: u32,
@@ -104,6 +108,16 @@ pub enum Refusal {
     Peer {
         reply: u64,
         why: PeerFault,
+    },
+    /// An item of the merge of two archives shows the metric with values, and that archive of the two, 1 or 2, doesn't describe it with a name,
+    /// or has no name for an instance of it.
+    Lacks {
+        source: u32,
+        pmid: Pmid,
+    },
+    /// An item of the merge shows the metric with an instance whose number has one name in the first archive and another in the second.
+    Clashes {
+        pmid: Pmid,
     },
     NoMemory,
 }
@@ -210,7 +224,7 @@ pub fn of_ending(ending: Ending) -> Option<Refusal>
 }
 
 impl Refusal {
-    /// The exit status: 1 to 3, 5 to 14, 16, 20 or 21. Of a sink that fails (4) nothing can be told.
+    /// The exit status: 1 to 3, 5 to 14, 16 or 18 to 21. Of a sink that fails (4) nothing can be told.
     pub fn status(&self) -> u8
         ensures { result ≡ status_of self.now }
     {
@@ -218,6 +232,7 @@ impl Refusal {
             Refusal::Usage { .. } => 1,
             Refusal::Image(_) | Refusal::Line(_) | Refusal::Condition { .. } => 2,
             Refusal::Script(fault) => script_status(&fault.fault),
+            Refusal::Rules(fault) => rule_status(&fault.fault),
             Refusal::ReadFault => 3,
             Refusal::DiskFault => 5,
             Refusal::Compressed { .. } | Refusal::NotArchive { .. } => 6,
@@ -232,6 +247,8 @@ impl Refusal {
             Refusal::Changed { .. } => 13,
             Refusal::Live { .. } => 14,
             Refusal::Peer { .. } => 16,
+            Refusal::Lacks { .. } => 18,
+            Refusal::Clashes { .. } => 19,
             Refusal::ClockFault { .. } => 20,
             Refusal::Accept => 21,
         }
@@ -262,6 +279,7 @@ impl Refusal {
             Refusal::Image(fault) => image_fault_text(alloc, fault),
             Refusal::Line(fault) => line_fault_text(alloc, fault.line, &fault.fault),
             Refusal::Script(fault) => script_line(alloc, fault),
+            Refusal::Rules(fault) => rule_line(alloc, fault),
             Refusal::Condition { line } => {
                 line_fault_text(alloc, *line as u64, &LineFault::Condition)
             }
@@ -283,6 +301,8 @@ impl Refusal {
             Refusal::ClockEnd { left } => clock_end_line(alloc, *left),
             Refusal::ClockFault { left } => clock_fault_line(alloc, *left),
             Refusal::Peer { reply, why } => peer_line(alloc, *reply, *why),
+            Refusal::Lacks { source, pmid } => lacks_line(alloc, *source, *pmid),
+            Refusal::Clashes { pmid } => clash_line(alloc, *pmid),
             // Their lines have no number.
             Refusal::ReadFault
             | Refusal::InputLimit

@@ -3,7 +3,7 @@ ghost use Rattle.std.specs.Prelude.{◌≡◌, ◌<◌, ◌≤◌, if◌then◌e
 ghost use Rattle.pcp_base.specs.Names.{IsComponent};
 ghost use Rattle.pcp_base.specs.Texts.{IsText};
 ghost use Rattle.pcp_base.specs.Time.{IsMoment};
-ghost use Rattle.pm_words.specs.CommandLine.{Reads, Gives, FitsCommand, asked_by, call_named, call_of, run_command_of, end_then, number_in, volume_of, once_of, replay_of, make_of, retire_of, image_command_of, archive_command_of, timed_command_of, stamp_then, at_of, range_of, value_of, second_of, microsecond_of, file_of, begins_with_dash, name_of, names_then, pull_of, record_of, serve_of, takes_input, word_then};
+ghost use Rattle.pm_words.specs.CommandLine.{Reads, Gives, FitsCommand, asked_by, call_named, call_of, run_command_of, end_then, number_in, volume_of, once_of, replay_of, make_of, retire_of, image_command_of, archive_command_of, timed_command_of, stamp_then, at_of, range_of, value_of, second_of, microsecond_of, file_of, begins_with_dash, name_of, names_then, pull_of, record_of, serve_of, extract_of, summary_of, takes_input, watch_of, word_then};
 ghost use Rattle.pm_words.specs.declared.words.Call.TheVariants as calls;
 
 use crate::names::{names_at, texts_of};
@@ -11,6 +11,8 @@ use crate::refusal::Refusal;
 use pcp_base::{Bytes, List, NoMemory, Stamp, Text, TextError, is_component};
 use std::alloc::Global;
 use text_lines::read_number;
+
+const MOST_WORKERS: u64 = 64;
 
 /// What the words of a command line ask for.
 #[derive(Drop)]
@@ -43,12 +45,18 @@ pub enum Command {
     Range(Stamp, Stamp),
     /// `value SEC USEC NAME`: write the values that a metric last had at a moment.
     Value(ValueWords),
+    /// `watch SEC USEC SEC USEC`: write which rules hold at the samples between two moments.
+    Watch(Stamp, Stamp),
     /// `record SAMPLES VOLUME`: run a script's writers, and log a sample at each moment of a clock.
     Record(RecordWords),
     /// `serve COUNT`: serve a script's regions to so many clients.
     Serve(u32),
     /// `pull SAMPLES VOLUME NAME..`: log samples of metrics that a peer is asked for.
     Pull(PullWords),
+    /// `extract VOLUME`: log the merge of two archives, with this volume limit in bytes.
+    Extract(u64),
+    /// `summary WORKERS SEC USEC SEC USEC`: write what the values of an archive come to between two moments.
+    Summary(SummaryWords),
 }
 
 /// The call of the library that does a command.
@@ -62,6 +70,10 @@ pub enum Call {
     Serve,
     /// `pull`.
     Pull,
+    /// `extract`.
+    Extract,
+    /// `summary`.
+    Summary,
 }
 
 /// When the result is logged, and the region's name: one component of a name, of at most 63 bytes.
@@ -102,6 +114,14 @@ pub struct PullWords {
     pub names: List<Text>,
 }
 
+/// How many workers are to read volumes beside each other, from one to 64, and the moments between which values count.
+#[derive(Clone, Copy, Debug, PartialEq, Eq)]
+pub struct SummaryWords {
+    pub workers: u32,
+    pub from: Stamp,
+    pub to: Stamp,
+}
+
 impl Call {
     /// The call that the first word names.
     pub fn named(words: &[String]) -> Call
@@ -120,6 +140,12 @@ impl Call {
         if name == b"pull".as_slice() {
             return Call::Pull;
         }
+        if name == b"extract".as_slice() {
+            return Call::Extract;
+        }
+        if name == b"summary".as_slice() {
+            return Call::Summary;
+        }
         Call::Offline
     }
 }
@@ -135,6 +161,7 @@ impl Command {
             | Command::MmvMake
             | Command::MmvDump
             | Command::MmvLift
+            | Command::Watch(_, _)
             | Command::Record(_)
             | Command::Serve(_) => true,
             _ => false,
@@ -372,6 +399,20 @@ fn range_words(words: &[String]) -> Result<Command, BadWord>
     Ok(Command::Range(from, to))
 }
 
+#[tactic(auto, unfolding(crate::specs::CommandLine::watch_of))]
+fn watch_words(words: &[String]) -> Result<Command, BadWord>
+    ensures command { Gives (λ command. command) result (watch_of (map string_bytes words.now)) }
+    ensures fits { IfOk result FitsCommand }
+    ensures call { IfOk result (λ command. call_of command ≡ calls.Offline) }
+{
+    let (from_sec, from_usec, rest) = moment_at(words, 1)?;
+    let (to_sec, to_usec, rest) = moment_at(rest, 3)?;
+    end_at(rest, 5)?;
+    let from = stamp_of(from_sec, from_usec)?;
+    let to = stamp_of(to_sec, to_usec)?;
+    Ok(Command::Watch(from, to))
+}
+
 fn bytes_of(alloc: Global, bytes: &[u8]) -> Result<Bytes, NoMemory>
     ensures { IfOk result (λ copy. copy ≡ bytes.now) }
 {
@@ -456,6 +497,10 @@ fn timed_words(alloc: Global, name: &[u8], words: &[String]) -> Result<Command, 
     if name == b"value".as_slice() {
         return value_words(alloc, words);
     }
+    if name == b"watch".as_slice() {
+        let command = watch_words(words)?;
+        return Ok(command);
+    }
     let command = archive_words(name, words)?;
     Ok(command)
 }
@@ -530,6 +575,38 @@ fn pull_words(alloc: Global, words: &[String]) -> Result<Command, Refusal>
     }))
 }
 
+// VOLUME
+#[tactic(auto, unfolding(crate::specs::CommandLine::extract_of))]
+fn extract_words(words: &[String]) -> Result<Command, BadWord>
+    ensures command { Gives (λ command. command) result (extract_of (map string_bytes words.now)) }
+    ensures fits { IfOk result FitsCommand }
+    ensures call { IfOk result (λ command. call_of command ≡ calls.Extract) }
+{
+    let (volume, rest) = volume_at(words, 1)?;
+    end_at(rest, 2)?;
+    Ok(Command::Extract(volume))
+}
+
+// WORKERS SEC USEC SEC USEC
+#[tactic(auto, unfolding(crate::specs::CommandLine::summary_of))]
+fn summary_words(words: &[String]) -> Result<Command, BadWord>
+    ensures command { Gives (λ command. command) result (summary_of (map string_bytes words.now)) }
+    ensures fits { IfOk result FitsCommand }
+    ensures call { IfOk result (λ command. call_of command ≡ calls.Summary) }
+{
+    let (workers, rest) = number_at(words, 1, 1, MOST_WORKERS)?;
+    let (from_sec, from_usec, rest) = moment_at(rest, 2)?;
+    let (to_sec, to_usec, rest) = moment_at(rest, 4)?;
+    end_at(rest, 6)?;
+    let from = stamp_of(from_sec, from_usec)?;
+    let to = stamp_of(to_sec, to_usec)?;
+    Ok(Command::Summary(SummaryWords {
+        workers: workers as u32,
+        from,
+        to,
+    }))
+}
+
 fn record_asked(name: &[u8], words: &[String]) -> Result<Command, BadWord>
     ensures command { Gives (λ command. command) result (if bytes_eq name.now (codes "record") then record_of (map string_bytes words.now) else Err 0) }
     ensures fits { IfOk result FitsCommand }
@@ -563,6 +640,28 @@ fn pull_asked(alloc: Global, name: &[u8], words: &[String]) -> Result<Command, R
     Err(Refusal::Usage { at: 0 })
 }
 
+fn extract_asked(name: &[u8], words: &[String]) -> Result<Command, BadWord>
+    ensures command { Gives (λ command. command) result (if bytes_eq name.now (codes "extract") then extract_of (map string_bytes words.now) else Err 0) }
+    ensures fits { IfOk result FitsCommand }
+    ensures call { IfOk result (λ command. call_of command ≡ calls.Extract) }
+{
+    if name == b"extract".as_slice() {
+        return extract_words(words);
+    }
+    Err(BadWord { at: 0 })
+}
+
+fn summary_asked(name: &[u8], words: &[String]) -> Result<Command, BadWord>
+    ensures command { Gives (λ command. command) result (if bytes_eq name.now (codes "summary") then summary_of (map string_bytes words.now) else Err 0) }
+    ensures fits { IfOk result FitsCommand }
+    ensures call { IfOk result (λ command. call_of command ≡ calls.Summary) }
+{
+    if name == b"summary".as_slice() {
+        return summary_words(words);
+    }
+    Err(BadWord { at: 0 })
+}
+
 /// The command that the words ask a call for, or the index of the first word that is bad or missing. A command that isn't known, or is
 /// another call's, is bad at 0.
 pub fn read_words(alloc: Global, call: Call, words: &[String]) -> Result<Command, Refusal>
@@ -584,5 +683,13 @@ pub fn read_words(alloc: Global, call: Call, words: &[String]) -> Result<Command
             Ok(command)
         }
         Call::Pull => pull_asked(alloc, name.as_bytes(), rest),
+        Call::Extract => {
+            let command = extract_asked(name.as_bytes(), rest)?;
+            Ok(command)
+        }
+        Call::Summary => {
+            let command = summary_asked(name.as_bytes(), rest)?;
+            Ok(command)
+        }
     }
 }

@@ -1,6 +1,5 @@
 -- The count of a sound archive, or why the check was refused.
 use Rattle.std.proofs.Common.{rules}
-use Rattle.pm_tasks.specs.commands.check.{IsTurnedAway}
 use Rattle.pm_tasks.proofs.Checked.{check_turned}
 use Rattle.pm_tasks.proofs.commands.check.judge.Goals as goal
 

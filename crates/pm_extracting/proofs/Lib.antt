@@ -1,0 +1,10 @@
+pub mod All
+pub mod Barred
+pub mod Below
+pub mod Completes
+pub mod Endings
+pub mod Facts
+pub mod Kept
+pub mod Sources
+pub mod Standing
+pub mod Taken

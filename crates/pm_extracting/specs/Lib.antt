@@ -1,0 +1,5 @@
+pub mod Refusals
+pub mod Ends
+pub mod Good
+pub mod Laws
+pub mod Facts

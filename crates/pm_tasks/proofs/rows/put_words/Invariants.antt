@@ -1,0 +1,12 @@
+-- The numbers of the values so far are put, and those left are to come.
+use Rattle.std.proofs.Common.{drop}
+use Rattle.rule_watch.specs.Watched.{AreValues}
+use Rattle.pm_tasks.specs.Rows.{word_pair}
+use Rattle.pm_tasks.proofs.Entries.{Putting}
+use Rattle.pm_tasks.proofs.rows.put_words.Given as goal
+
+abbrev pub invariant-loop-value : goal.invariant-loop-value
+invariant-loop-value l = record {
+  putting : Putting (word_pair l.code) l.fn.row l.name l.values (drop l.value-index l.values) l.seen.keys l.row;
+  values : AreValues l.row;
+}
