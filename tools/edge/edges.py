@@ -257,6 +257,48 @@ def heard(client):
         said += more
 
 
+def try_sources(folder):
+    """Two archives are merged into a third; a source that is missing or is the archive itself is a bad word, and nothing is touched."""
+    first, second, both = (os.path.join(folder, name) for name in ("first", "second", "both"))
+    assert run(first, "once", "100", "0", "app", given=content(IMAGE)) == (0, b"logged 1\n")
+    assert run(second, "once", "101", "0", "app", given=content(IMAGE)) == (0, b"logged 1\n")
+    before = {base: files(base) for base in (first, second)}
+    assert run(both, "extract", first, second, "1048576") == (0, b"extracted 2\n")
+    assert run(both, "check") == (0, b"sound 2\n")
+    assert run(both, "summary", "3", "0", "0", "200", "0") == (0, b"mmv.app.hits 2 7 7 14\n")
+    assert run(both, "watch", "0", "0", "200", "0", given=b"rule same when all rise mmv.app.hits over 2 == 0\n") == (0, b"1970-01-01T00:01:41.000000Z same\nfired 1\n")
+    assert run(both, "extract", first, second, "1048576") == (12, b"not later 101 0\n")
+    # a file of the archive, under another name
+    linked, hard = (os.path.join(folder, name) for name in ("linked", "hard"))
+    os.symlink("first.0", linked + ".0")
+    os.link(second + ".index", hard + ".index")
+    for base, words, found in [
+        (first, (first, second, "1048576"), 1),
+        (second, (first, os.path.join(folder, ".", "second"), "1048576"), 2),
+        (first, (second, linked, "1048576"), 2),
+        (linked, (first, second, "1048576"), 1),
+        (second, (hard, first, "1048576"), 1),
+        (first, (), 1),
+        (first, (second,), 2),
+        (first, (b"\xff", second, "1048576"), 1),
+        (first, (second, b"\xff", "1048576"), 2),
+        (both, (first, second), 1),
+        (both, (first, second, "1023"), 1),
+        (both, (first, second, "1048576", "1"), 2),
+        (both, (first, second, b"\xff"), 1),
+    ]:
+        assert run(base, "extract", *words) == (1, b"usage %d\n" % found), (base, words)
+    assert {base: files(base) for base in (first, second)} == before
+    # a source that isn't sound, or is no archive, is named, and leaves no archive
+    fresh = os.path.join(folder, "fresh")
+    os.truncate(second + ".meta", 140)
+    assert run(fresh, "extract", first, second, "1048576") == (10, b"source 2\nunsound boundary 0 meta 132 184\n")
+    with open(second + ".meta", "r+b") as it:
+        it.write(b"x")
+    assert run(fresh, "extract", second, first, "1048576") == (6, b"source 1\nnot archive meta 0\n")
+    assert not files(fresh)
+
+
 def try_few_descriptors(folder):
     """A server without descriptors waits, and serves the others once there are some."""
     port = free_port()
