@@ -108,7 +108,7 @@ where
             let status = summary(rt, rt.alloc(), command, out, &mut disk, &Free);
             (status, disk)
         }
-        Call::Offline | Call::Serve | Call::Extract => {
+        Call::Offline | Call::Serve | Call::Extract | Call::Export => {
             let mut opened = None;
             let status = offline(rt.alloc(), command, input, out, &mut disk, &mut opened);
             (status, disk)
@@ -252,7 +252,7 @@ fn main(rt: HostRuntime) -> ExitCode {
     let status = match Call::named(command) {
         Call::Serve => serve_clients(&rt, command, &mut input, &mut out),
         Call::Extract => merge_sources(&rt, base, command, &mut out, &screen),
-        Call::Offline | Call::Record | Call::Pull | Call::Summary => {
+        Call::Offline | Call::Record | Call::Pull | Call::Summary | Call::Export => {
             archive(&rt, base, command, &mut input, &mut out, &screen)
         }
     };

@@ -22,7 +22,7 @@ use Rattle.run_script.specs.declared.script.Script.{Script}
 use Rattle.pm_words.specs.declared.refusal.Refusal.{Refusal}
 use Rattle.pm_words.specs.declared.refusal.Refusal.TheVariants.{Compressed, NotArchive, Nothing, UnsoundItems, UnsoundBoundary, UnsoundLate, Live}
 use Rattle.pm_words.specs.declared.words.Command.{Command}
-use Rattle.pm_words.specs.declared.words.Command.TheVariants.{Once, Replay, Make, Retire, MmvMake, MmvDump, MmvLift, Dump, Info, Check, Recover, At, Range, Value, Watch, Record, Serve, Pull, Extract, Summary}
+use Rattle.pm_words.specs.declared.words.Command.TheVariants.{Once, Replay, Make, Retire, MmvMake, MmvDump, MmvLift, Dump, Info, Check, Recover, At, Range, Value, Watch, Record, Serve, Pull, Extract, Summary, Export}
 use Rattle.pm_words.specs.declared.words.ValueWords.{ValueWords}
 use Rattle.pm_words.specs.Refusals.{IsOfSoundness, ending_refusal, status_of}
 use Rattle.pm_words.specs.Sides.{Found}
@@ -160,3 +160,4 @@ only_check (Serve count) input f e of t = absurd t
 only_check (Pull asked) input f e of t = absurd t
 only_check (Extract volume) input f e of t = absurd t
 only_check (Summary asked) input f e of t = absurd t
+only_check Export input f e of t = absurd t

@@ -1,7 +1,7 @@
 -- The laws of each command's meaning.
 use Rattle.std.proofs.Common.{None, []}
 use Rattle.pm_words.specs.declared.words.Command.{Command}
-use Rattle.pm_words.specs.declared.words.Command.TheVariants.{Once, Replay, Make, Retire, MmvMake, MmvDump, MmvLift, Dump, Info, Check, Recover, At, Range, Value, Watch, Record, Serve, Pull, Extract, Summary}
+use Rattle.pm_words.specs.declared.words.Command.TheVariants.{Once, Replay, Make, Retire, MmvMake, MmvDump, MmvLift, Dump, Info, Check, Recover, At, Range, Value, Watch, Record, Serve, Pull, Extract, Summary, Export}
 use Rattle.pm_words.proofs.Coherent.{IsCoherent, converts_coherent}
 use Rattle.pm_tasks.proofs.Coherent.{at_coherent, check_coherent, dump_coherent, info_coherent, mmv_dump_coherent, mmv_lift_coherent, mmv_make_coherent, range_coherent, value_coherent, watch_coherent}
 use Rattle.pm_runs.proofs.Coherent.{recover_coherent, runs_coherent}
@@ -32,3 +32,4 @@ coherent (Serve count) = converts_coherent (λ input. None) (λ input. [])
 coherent (Pull asked) = converts_coherent (λ input. None) (λ input. [])
 coherent (Extract volume) = converts_coherent (λ input. None) (λ input. [])
 coherent (Summary asked) = converts_coherent (λ input. None) (λ input. [])
+coherent Export = converts_coherent (λ input. None) (λ input. [])

@@ -6,7 +6,7 @@ use Rattle.pcp_outside.specs.declared.disk.Disk.{Ghosts as DiskGhosts}
 use Rattle.run_passes.specs.declared.opening.Opened.{Opened}
 use Rattle.pm_words.specs.declared.words.Call.TheVariants as calls
 use Rattle.pm_words.specs.declared.refusal.Refusal.{Refusal}
-use Rattle.pm_words.specs.declared.refusal.Refusal.TheVariants.{Usage, ReadFault, InputLimit, Image, Line, Script, Rules, DiskFault, ClockEnd, ClockFault, Accept, Peer, Lacks, Clashes, NoMemory}
+use Rattle.pm_words.specs.declared.refusal.Refusal.TheVariants.{Usage, ReadFault, InputLimit, Image, Line, Script, Rules, DiskFault, ClockEnd, ClockFault, Accept, Peer, Lacks, Clashes, Stands, NoMemory}
 use Rattle.pm_words.specs.Asking.{Before, Got}
 use Rattle.pm_words.specs.CommandLine.{takes_input}
 use Rattle.pm_words.specs.Inputs.{input_limit}
@@ -78,6 +78,7 @@ module _ (words : List (List ℕ)) (s : SourceSide) (k : SinkSide) (d : DiskSide
   out_of_memory (Peer reply why) c some = absurd c.1
   out_of_memory (Lacks source pmid) c some = absurd c.1
   out_of_memory (Clashes pmid) c some = absurd c.1
+  out_of_memory (Stands file) c some = absurd c.1
   out_of_memory NoMemory c some = c
   out_of_memory e c some = (took_some s (takes_input c.0.command) c.0.input c.0.got, inr (c.0, untold_left (meaning c.0.command) (coherent c.0.command) c.0.input d (status_of e) (λ five. omega (arith, five)) c.1.1))
 

@@ -9,7 +9,7 @@ use Rattle.run_passes.specs.declared.opening.Opened.{Opened}
 use Rattle.pm_words.specs.declared.words.Call.TheVariants as calls
 use Rattle.pm_words.specs.declared.words.Command.{Command}
 use Rattle.pm_words.specs.declared.refusal.Refusal.{Refusal}
-use Rattle.pm_words.specs.declared.refusal.Refusal.TheVariants.{Usage, ReadFault, InputLimit, Image, Line, Script, Rules, Condition, Limit, NotLater, Changed, Compressed, NotArchive, Nothing, DiskFault, ClockEnd, ClockFault, Accept, Peer, Lacks, Clashes, NoMemory}
+use Rattle.pm_words.specs.declared.refusal.Refusal.TheVariants.{Usage, ReadFault, InputLimit, Image, Line, Script, Rules, Condition, Limit, NotLater, Changed, Compressed, NotArchive, Nothing, DiskFault, ClockEnd, ClockFault, Accept, Peer, Lacks, Clashes, Stands, NoMemory}
 use Rattle.pm_words.specs.Asking.{Got}
 use Rattle.pm_words.specs.CommandLine.{asked_by, takes_input}
 use Rattle.pm_words.specs.Inputs.{input_limit, refusal_of}
@@ -165,6 +165,7 @@ module _ (words : List (List ℕ)) (s : SourceSide) (k : SinkSide) (d : DiskSide
   input_found (Peer reply why) c b f bad = absurd c.1
   input_found (Lacks source pmid) c b f bad = absurd c.1
   input_found (Clashes pmid) c b f bad = absurd c.1
+  input_found (Stands file) c b f bad = absurd c.1
   input_found NoMemory c b f bad = inr (inl refl)
   input_found _ c b f bad = absurd (found_good c.0 b f c.1.0.0 bad)
 
@@ -198,6 +199,7 @@ module _ (words : List (List ℕ)) (s : SourceSide) (k : SinkSide) (d : DiskSide
   turned_found status b good so (Peer reply why) c = absurd c.1
   turned_found status b good so (Lacks source pmid) c = absurd c.1
   turned_found status b good so (Clashes pmid) c = absurd c.1
+  turned_found status b good so (Stands file) c = absurd c.1
   turned_found status b good so NoMemory c = inr (inl refl)
   turned_found status b good so e c = inl (so c.0 e c.1.2)
 
@@ -315,6 +317,7 @@ module _ (words : List (List ℕ)) (s : SourceSide) (k : SinkSide) (d : DiskSide
   completed (Peer reply why) c good = absurd c.1
   completed (Lacks source pmid) c good = absurd c.1
   completed (Clashes pmid) c good = absurd c.1
+  completed (Stands file) c good = absurd c.1
   completed NoMemory c good = inr (inl refl)
   completed e c good = inr (inr (good_files good c.0 c.1.0.1 e c.1.2))
 
@@ -373,6 +376,7 @@ module _ (words : List (List ℕ)) (s : SourceSide) (k : SinkSide) (d : DiskSide
     good_regions (Peer reply why) c has b good runs = absurd c.1
     good_regions (Lacks source pmid) c has b good runs = absurd c.1
     good_regions (Clashes pmid) c has b good runs = absurd c.1
+    good_regions (Stands file) c has b good runs = absurd c.1
     good_regions NoMemory c has b good runs = inr (inl refl)
     good_regions _ c has b good runs = inl (has (b.command, b.words_are, runs))
 
@@ -388,6 +392,7 @@ module _ (words : List (List ℕ)) (s : SourceSide) (k : SinkSide) (d : DiskSide
     ran_regions (Peer reply why) has asks h = absurd (not_run 16 refl h)
     ran_regions (Lacks source pmid) has asks h = absurd (not_run 18 refl h)
     ran_regions (Clashes pmid) has asks h = absurd (not_run 19 refl h)
+    ran_regions (Stands file) has asks h = absurd (not_run 23 refl h)
     ran_regions NoMemory has asks h = absurd (not_run 9 refl h)
     ran_regions _ has asks h = has asks
 

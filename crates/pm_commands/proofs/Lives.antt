@@ -13,7 +13,7 @@ use Rattle.script_runs.specs.declared.ending.Ending.TheVariants as ends
 use Rattle.pm_words.specs.declared.refusal.Refusal.{Refusal}
 use Rattle.pm_words.specs.declared.refusal.Refusal.TheVariants.{Compressed, NotArchive, Script, Rules, Live}
 use Rattle.pm_words.specs.declared.words.Command.{Command}
-use Rattle.pm_words.specs.declared.words.Command.TheVariants.{Once, Replay, Make, Retire, MmvMake, MmvDump, MmvLift, Dump, Info, Check, Recover, At, Range, Value, Watch, Record, Serve, Pull, Extract, Summary}
+use Rattle.pm_words.specs.declared.words.Command.TheVariants.{Once, Replay, Make, Retire, MmvMake, MmvDump, MmvLift, Dump, Info, Check, Recover, At, Range, Value, Watch, Record, Serve, Pull, Extract, Summary, Export}
 use Rattle.pm_words.specs.Refusals.{AtFiles, ending_refusal, status_of}
 use Rattle.pm_words.specs.Sides.{DiskSide, Found, files_found}
 use Rattle.pm_words.proofs.Asked.{rules_apart, script_apart}
@@ -70,6 +70,7 @@ only_retire (Serve count) input f volume t = absurd t
 only_retire (Pull asked) input f volume t = absurd t
 only_retire (Extract limit) input f volume t = absurd t
 only_retire (Summary asked) input f volume t = absurd t
+only_retire Export input f volume t = absurd t
 
 -- ---- which archives are live
 

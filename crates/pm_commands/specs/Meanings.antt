@@ -1,7 +1,7 @@
 -- The meaning of each command. Where a new one goes: its variant and its words in pm_words, its meaning here, its body in `serve`.
 use Rattle.std.specs.Prelude.{Bool, true, [], None}
 use Rattle.pm_words.specs.declared.words.Command.{Command}
-use Rattle.pm_words.specs.declared.words.Command.TheVariants.{Once, Replay, Make, Retire, MmvMake, MmvDump, MmvLift, Dump, Info, Check, Recover, At, Range, Value, Watch, Record, Serve, Pull, Extract, Summary}
+use Rattle.pm_words.specs.declared.words.Command.TheVariants.{Once, Replay, Make, Retire, MmvMake, MmvDump, MmvLift, Dump, Info, Check, Recover, At, Range, Value, Watch, Record, Serve, Pull, Extract, Summary, Export}
 use Rattle.pm_words.specs.Meaning.{Meaning, converts}
 use Rattle.pm_tasks.specs.commands.at.{at}
 use Rattle.pm_tasks.specs.commands.check.{check}
@@ -44,10 +44,12 @@ meaning (Serve count) = other
 meaning (Pull asked) = other
 meaning (Extract volume) = other
 meaning (Summary asked) = other
+meaning Export = other
 
--- whether a command writes an archive; `record`, `pull` and `extract` do, whose meanings are their calls'
+-- whether a command writes an archive; `record`, `pull`, `extract` and `export` do, whose meanings are their calls'
 abbrev pub writes_archive : Command → Bool
 writes_archive (Record asked) = true
 writes_archive (Pull asked) = true
 writes_archive (Extract volume) = true
+writes_archive Export = true
 writes_archive command = (meaning command).writes_archive

@@ -32,6 +32,7 @@ pub fn writes_archive(command: &Command) -> bool
             | Command::Record(_)
             | Command::Pull(_)
             | Command::Extract(_)
+            | Command::Export
     )
 }
 
@@ -73,7 +74,8 @@ fn serve<O: Sink, D: Disk>(
         | Command::Serve(_)
         | Command::Pull(_)
         | Command::Extract(_)
-        | Command::Summary(_) => { unreachable!() }
+        | Command::Summary(_)
+        | Command::Export => { unreachable!() }
     }
 }
 

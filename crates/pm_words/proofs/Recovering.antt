@@ -3,7 +3,7 @@ use Rattle.std.proofs.Common.{◌≡◌, inl, inr, ℕ, Bool, true, false, ◌==
 use Rattle.pcp_outside.specs.Sides.{SourceSide}
 use Rattle.pm_words.specs.declared.words.Call.{Call}
 use Rattle.pm_words.specs.declared.refusal.Refusal.{Refusal}
-use Rattle.pm_words.specs.declared.refusal.Refusal.TheVariants.{Usage, ReadFault, InputLimit, Image, Line, Script, Rules, Condition, Limit, NotLater, Changed, Compressed, NotArchive, Nothing, UnsoundItems, UnsoundBoundary, UnsoundLate, Live, DiskFault, ClockEnd, ClockFault, Accept, Peer, Lacks, Clashes, NoMemory}
+use Rattle.pm_words.specs.declared.refusal.Refusal.TheVariants.{Usage, ReadFault, InputLimit, Image, Line, Script, Rules, Condition, Limit, NotLater, Changed, Compressed, NotArchive, Nothing, UnsoundItems, UnsoundBoundary, UnsoundLate, Live, DiskFault, ClockEnd, ClockFault, Accept, Peer, Lacks, Clashes, Stands, NoMemory}
 use Rattle.rule_watch.specs.declared.fault.RuleLineFault.{RuleLineFault}
 use Rattle.rule_watch.specs.declared.fault.RuleLineFault.TheVariants as rule
 use Rattle.run_script.specs.declared.fault.ScriptLineFault.{ScriptLineFault}
@@ -73,6 +73,7 @@ by_status Accept h = absurd (early 21 refl h)
 by_status (Peer reply why) h = absurd (early 16 refl h)
 by_status (Lacks source pmid) h = absurd (early 18 refl h)
 by_status (Clashes pmid) h = absurd (early 19 refl h)
+by_status (Stands file) h = absurd (early 23 refl h)
 by_status NoMemory h = absurd (early 9 refl h)
 by_status _ h = tt
 

@@ -7,7 +7,7 @@ use Rattle.text_lines.specs.Numbers.{number_of}
 use Rattle.pm_words.specs.declared.words.Command.{Command}
 use Rattle.pm_words.specs.declared.words.Call.{Call}
 use Rattle.pm_words.specs.declared.words.Call.TheVariants as calls
-use Rattle.pm_words.specs.declared.words.Command.TheVariants.{Once, Replay, Make, Retire, MmvMake, MmvDump, MmvLift, Dump, Info, Check, Recover, At, Range, Value, Watch, Record, Serve, Pull, Extract, Summary}
+use Rattle.pm_words.specs.declared.words.Command.TheVariants.{Once, Replay, Make, Retire, MmvMake, MmvDump, MmvLift, Dump, Info, Check, Recover, At, Range, Value, Watch, Record, Serve, Pull, Extract, Summary, Export}
 use Rattle.pm_words.specs.declared.refusal.Refusal.{Refusal}
 use Rattle.pm_words.specs.declared.refusal.Refusal.TheVariants.{Usage, NoMemory}
 use Rattle.pm_words.specs.declared.words.BadWord.{BadWord}
@@ -211,7 +211,7 @@ summary_of words = do
   to ← stamp_then 4 from.1
   end_then (Summary record { workers = workers.0; from = from.0; to = to.0 }) 6 to.1
 
--- the call that the first word names; these five have calls of their own
+-- the call that the first word names; these six have calls of their own
 abbrev pub call_named : List (List ℕ) → Call
 call_named [] = calls.Offline
 call_named (word ∷ words) =
@@ -219,7 +219,8 @@ call_named (word ∷ words) =
     if bytes_eq word (codes "serve") then calls.Serve else
     if bytes_eq word (codes "pull") then calls.Pull else
     if bytes_eq word (codes "extract") then calls.Extract else
-    if bytes_eq word (codes "summary") then calls.Summary else calls.Offline
+    if bytes_eq word (codes "summary") then calls.Summary else
+    if bytes_eq word (codes "export") then calls.Export else calls.Offline
 
 -- The command that the words ask a call for, or the index of the first word that is bad or missing. A command that isn't known, or is
 -- another call's, is bad at 0.
@@ -231,6 +232,7 @@ asked_by calls.Serve (word ∷ words) = if bytes_eq word (codes "serve") then se
 asked_by calls.Pull (word ∷ words) = if bytes_eq word (codes "pull") then pull_of words else Err 0
 asked_by calls.Extract (word ∷ words) = if bytes_eq word (codes "extract") then extract_of words else Err 0
 asked_by calls.Summary (word ∷ words) = if bytes_eq word (codes "summary") then summary_of words else Err 0
+asked_by calls.Export (word ∷ words) = if bytes_eq word (codes "export") then end_then Export 1 words else Err 0
 
 -- the call that does a command
 abbrev pub call_of : Command → Call
@@ -239,6 +241,7 @@ call_of (Serve count) = calls.Serve
 call_of (Pull asked) = calls.Pull
 call_of (Extract volume) = calls.Extract
 call_of (Summary asked) = calls.Summary
+call_of Export = calls.Export
 call_of _ = calls.Offline
 
 -- whether a command takes an input

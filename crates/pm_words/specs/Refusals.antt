@@ -24,7 +24,7 @@ use Rattle.script_runs.specs.declared.ending.LimitKind.TheVariants as kinds
 use Rattle.pm_words.specs.declared.refusal.PeerFault.{PeerFault}
 use Rattle.pm_words.specs.declared.refusal.PeerFault.TheVariants as peers
 use Rattle.pm_words.specs.declared.refusal.Refusal.{Refusal}
-use Rattle.pm_words.specs.declared.refusal.Refusal.TheVariants.{Usage, ReadFault, InputLimit, Image, Line, Script, Rules, Condition, Limit, NotLater, Changed, Compressed, NotArchive, Nothing, UnsoundItems, UnsoundBoundary, UnsoundLate, Live, DiskFault, ClockEnd, ClockFault, Accept, Peer, Lacks, Clashes, NoMemory}
+use Rattle.pm_words.specs.declared.refusal.Refusal.TheVariants.{Usage, ReadFault, InputLimit, Image, Line, Script, Rules, Condition, Limit, NotLater, Changed, Compressed, NotArchive, Nothing, UnsoundItems, UnsoundBoundary, UnsoundLate, Live, DiskFault, ClockEnd, ClockFault, Accept, Peer, Lacks, Clashes, Stands, NoMemory}
 
 -- of a script that has too many regions the limit is told
 abbrev pub script_status : ScriptLineFault → ℕ
@@ -63,6 +63,7 @@ status_of Accept = 21
 status_of (Peer reply why) = 16
 status_of (Lacks source pmid) = 18
 status_of (Clashes pmid) = 19
+status_of (Stands file) = 23
 status_of NoMemory = 9
 
 abbrev pub script_line : ℕ → ScriptLineFault → List ℕ
@@ -126,6 +127,7 @@ line_of Accept = codes "accept fault\n"
 line_of (Peer reply why) = codes "peer " ++ (decimal reply ++ (32 ∷ (peer_fault why ++ 10 ∷ [])))
 line_of (Lacks source pmid) = codes "lacks " ++ (decimal source ++ (32 ∷ (pmid_text pmid ++ 10 ∷ [])))
 line_of (Clashes pmid) = codes "clash " ++ (pmid_text pmid ++ 10 ∷ [])
+line_of (Stands file) = codes "stands " ++ (file_name file ++ 10 ∷ [])
 line_of NoMemory = []
 
 -- its line has a number or a name, so that making it takes memory
@@ -138,7 +140,8 @@ IsNumbered NoMemory = ⊥
 IsNumbered _ = Unit {0}
 
 -- What a call looks at when it is refused: its words, the reading of an input, the input, the files (recovered, read, or run over), the disk
--- as a device, the clock, the doors, the replies of a peer, the merge of two archives; or memory, at any place.
+-- as a device, the clock, the doors, the replies of a peer, the merge of two archives, the place where an archive is to come to stand; or
+-- memory, at any place.
 pub data Stage : Type 0 where
   AtWords : Stage
   AtReading : Stage
@@ -149,6 +152,7 @@ pub data Stage : Type 0 where
   AtDoors : Stage
   AtReplies : Stage
   AtMerge : Stage
+  AtTarget : Stage
   AtMemory : Stage
 
 abbrev pub stage_of : Refusal → Stage
@@ -166,6 +170,7 @@ stage_of Accept = AtDoors
 stage_of (Peer reply why) = AtReplies
 stage_of (Lacks source pmid) = AtMerge
 stage_of (Clashes pmid) = AtMerge
+stage_of (Stands file) = AtTarget
 stage_of NoMemory = AtMemory
 stage_of _ = AtFiles
 

@@ -1,7 +1,7 @@
 //! The last lines of refusals that have a number or a name.
 ghost use Rattle.std.specs.Prelude.{◌≡◌, IfOk, string_bytes};
 ghost use Rattle.pm_words.specs.Refusals.{file_name, limit_name, line_of, peer_fault, rule_line, rule_status, script_line, script_status};
-ghost use Rattle.pm_words.specs.declared.refusal.Refusal.TheVariants.{Changed, Clashes, ClockEnd, ClockFault, Compressed, Lacks, Limit, Live, NotArchive, NotLater, Nothing, Peer, UnsoundBoundary, UnsoundItems, UnsoundLate, Usage};
+ghost use Rattle.pm_words.specs.declared.refusal.Refusal.TheVariants.{Changed, Clashes, ClockEnd, ClockFault, Compressed, Lacks, Limit, Live, NotArchive, NotLater, Nothing, Peer, Stands, UnsoundBoundary, UnsoundItems, UnsoundLate, Usage};
 
 use crate::refusal::PeerFault;
 use mmv_writer::LineFault;
@@ -130,6 +130,15 @@ pub(crate) fn misfit_line(alloc: Global, file: FileId, at: u64) -> Result<Bytes,
     let name = file_name(alloc, file)?;
     let name = name.as_str();
     let line = format!(in alloc; "not archive {name} {at}\n")?;
+    Ok(List::from_vec(line.into_bytes()))
+}
+
+pub(crate) fn stands_line(alloc: Global, file: FileId) -> Result<Bytes, NoMemory>
+    ensures { IfOk result (λ line. line ≡ line_of (Stands file)) }
+{
+    let name = file_name(alloc, file)?;
+    let name = name.as_str();
+    let line = format!(in alloc; "stands {name}\n")?;
     Ok(List::from_vec(line.into_bytes()))
 }
 

@@ -5,8 +5,8 @@ ghost use Rattle.pm_words.specs.Refusals.{IsNumbered, Wrote, ending_refusal, lin
 use crate::lines::{
     changed_line, clash_line, clock_end_line, clock_fault_line, compressed_line, lacks_line,
     limit_line, live_line, misfit_line, not_later_line, nothing_line, peer_line, rule_line,
-    rule_status, script_line, script_status, unsound_boundary_line, unsound_items_line,
-    unsound_late_line, usage_line,
+    rule_status, script_line, script_status, stands_line, unsound_boundary_line,
+    unsound_items_line, unsound_late_line, usage_line,
 };
 use archive_check::CheckFault;
 use archive_reader::ReaderFault;
@@ -119,6 +119,10 @@ pub enum Refusal {
     Clashes {
         pmid: Pmid,
     },
+    /// The file stands where an archive is to come to stand, under its name or under that with `.xz` or `.gz` added.
+    Stands {
+        file: FileId,
+    },
     NoMemory,
 }
 
@@ -224,7 +228,7 @@ pub fn of_ending(ending: Ending) -> Option<Refusal>
 }
 
 impl Refusal {
-    /// The exit status: 1 to 3, 5 to 14, 16 or 18 to 21. Of a sink that fails (4) nothing can be told.
+    /// The exit status: 1 to 3, 5 to 14, 16, 18 to 21 or 23. Of a sink that fails (4) nothing can be told.
     pub fn status(&self) -> u8
         ensures { result ≡ status_of self.now }
     {
@@ -251,6 +255,7 @@ impl Refusal {
             Refusal::Clashes { .. } => 19,
             Refusal::ClockFault { .. } => 20,
             Refusal::Accept => 21,
+            Refusal::Stands { .. } => 23,
         }
     }
 
@@ -303,6 +308,7 @@ impl Refusal {
             Refusal::Peer { reply, why } => peer_line(alloc, *reply, *why),
             Refusal::Lacks { source, pmid } => lacks_line(alloc, *source, *pmid),
             Refusal::Clashes { pmid } => clash_line(alloc, *pmid),
+            Refusal::Stands { file } => stands_line(alloc, *file),
             // Their lines have no number.
             Refusal::ReadFault
             | Refusal::InputLimit

@@ -5,6 +5,7 @@ ghost use Rattle.pcp_base.specs.Texts.{IsText};
 ghost use Rattle.pcp_base.specs.Time.{IsMoment};
 ghost use Rattle.pm_words.specs.CommandLine.{Reads, Gives, FitsCommand, asked_by, call_named, call_of, run_command_of, end_then, number_in, volume_of, once_of, replay_of, make_of, retire_of, image_command_of, archive_command_of, timed_command_of, stamp_then, at_of, range_of, value_of, second_of, microsecond_of, file_of, begins_with_dash, name_of, names_then, pull_of, record_of, serve_of, extract_of, summary_of, takes_input, watch_of, word_then};
 ghost use Rattle.pm_words.specs.declared.words.Call.TheVariants as calls;
+ghost use Rattle.pm_words.specs.declared.words.Command.TheVariants.{Export};
 
 use crate::names::{names_at, texts_of};
 use crate::refusal::Refusal;
@@ -57,6 +58,8 @@ pub enum Command {
     Extract(u64),
     /// `summary WORKERS SEC USEC SEC USEC`: write what the values of an archive come to between two moments.
     Summary(SummaryWords),
+    /// `export`: write an archive as one that stock tools show whole, where nothing stands yet.
+    Export,
 }
 
 /// The call of the library that does a command.
@@ -74,6 +77,8 @@ pub enum Call {
     Extract,
     /// `summary`.
     Summary,
+    /// `export`.
+    Export,
 }
 
 /// When the result is logged, and the region's name: one component of a name, of at most 63 bytes.
@@ -145,6 +150,9 @@ impl Call {
         }
         if name == b"summary".as_slice() {
             return Call::Summary;
+        }
+        if name == b"export".as_slice() {
+            return Call::Export;
         }
         Call::Offline
     }
@@ -662,6 +670,18 @@ fn summary_asked(name: &[u8], words: &[String]) -> Result<Command, BadWord>
     Err(BadWord { at: 0 })
 }
 
+fn export_asked(name: &[u8], words: &[String]) -> Result<Command, BadWord>
+    ensures command { Gives (λ command. command) result (if bytes_eq name.now (codes "export") then end_then Export 1 (map string_bytes words.now) else Err 0) }
+    ensures fits { IfOk result FitsCommand }
+    ensures call { IfOk result (λ command. call_of command ≡ calls.Export) }
+{
+    if name == b"export".as_slice() {
+        end_at(words, 1)?;
+        return Ok(Command::Export);
+    }
+    Err(BadWord { at: 0 })
+}
+
 /// The command that the words ask a call for, or the index of the first word that is bad or missing. A command that isn't known, or is
 /// another call's, is bad at 0.
 pub fn read_words(alloc: Global, call: Call, words: &[String]) -> Result<Command, Refusal>
@@ -689,6 +709,10 @@ pub fn read_words(alloc: Global, call: Call, words: &[String]) -> Result<Command
         }
         Call::Summary => {
             let command = summary_asked(name.as_bytes(), rest)?;
+            Ok(command)
+        }
+        Call::Export => {
+            let command = export_asked(name.as_bytes(), rest)?;
             Ok(command)
         }
     }
