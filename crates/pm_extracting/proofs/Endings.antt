@@ -12,11 +12,11 @@ use Rattle.log_extract.specs.declared.fault.ExtractFault.{ExtractFault}
 use Rattle.log_extract.specs.declared.fault.ExtractFault.TheVariants.{Archive, Merge, Source as Unread}
 use Rattle.pm_words.specs.declared.refusal.Refusal.{Refusal}
 use Rattle.pm_words.specs.declared.refusal.Refusal.TheVariants.{Usage, NoMemory}
-use Rattle.pm_words.specs.Refusals.{IsNumbered, status_of}
+use Rattle.pm_words.specs.Refusals.{IsNumbered, full_refusal, status_of}
 use Rattle.pm_words.specs.Telling.{IsToldBy}
 use Rattle.pm_words.proofs.Telling.{told_by}
 use Rattle.pm_extracting.specs.Ends.{CallSide, Cause, Ends, HasRun, IsRefused, TellsCount, TellsRun}
-use Rattle.pm_extracting.specs.Refusals.{fault_refusal, front_of, full_refusal}
+use Rattle.pm_extracting.specs.Refusals.{fault_refusal, front_of}
 
 -- ---- the statuses
 

@@ -1,46 +1,12 @@
 //! What is told of an extract that ended before all was merged.
 ghost use Rattle.std.specs.Prelude.{◌≡◌, IfNone, IfSome, []};
-ghost use Rattle.pm_extracting.specs.Refusals.{archive_refusal, fault_refusal, front_of, full_refusal, merge_refusal, source_front, source_line};
+ghost use Rattle.pm_extracting.specs.Refusals.{fault_refusal, front_of, merge_refusal, source_front, source_line};
 
 use archive_check::CheckFault;
 use archive_merge::MergeFault;
 use archive_reader::ReaderFault;
 use log_extract::ExtractFault;
-use logging_run::RunFault;
-use pcp_base::FileId;
 use pm_words::Refusal;
-use script_runs::LimitKind;
-
-// A file would be too long, or there would be too many volumes.
-fn full_refusal(file: FileId, number: u64) -> Refusal
-    ensures { result ≡ full_refusal file number }
-{
-    let what = match file {
-        FileId::Meta => LimitKind::Meta,
-        FileId::Index => LimitKind::Index,
-        FileId::Volume(_) => LimitKind::Volume,
-    };
-    Refusal::Limit { what, number }
-}
-
-// Why the output's files aren't recovered, or an item isn't logged.
-fn archive_refusal(fault: RunFault) -> Refusal
-    ensures { result ≡ archive_refusal fault }
-{
-    match fault {
-        RunFault::Compressed { file } => Refusal::Compressed { file },
-        RunFault::NotArchive { file, at } => Refusal::NotArchive { file, at },
-        RunFault::Large { bytes } => Refusal::Limit {
-            what: LimitKind::Record,
-            number: bytes,
-        },
-        RunFault::NotLater { last } => Refusal::NotLater { last },
-        RunFault::Changed { pmid } => Refusal::Changed { pmid },
-        RunFault::Full { file, bytes } => full_refusal(file, bytes),
-        RunFault::NoMemory => Refusal::NoMemory,
-        RunFault::DiskFault => Refusal::DiskFault,
-    }
-}
 
 // Why an item can't be described.
 fn merge_refusal(fault: MergeFault) -> Refusal
@@ -60,7 +26,7 @@ pub(crate) fn fault_refusal(fault: ExtractFault) -> Refusal
     match fault {
         ExtractFault::Source { fault, .. } => Refusal::from(fault),
         ExtractFault::Merge(fault) => merge_refusal(fault),
-        ExtractFault::Archive(fault) => archive_refusal(fault),
+        ExtractFault::Archive(fault) => Refusal::from(fault),
     }
 }
 

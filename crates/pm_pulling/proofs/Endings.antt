@@ -8,13 +8,13 @@ use Rattle.logging_run.specs.declared.fault.RunFault.TheVariants as runs
 use Rattle.pmcd_client.specs.declared.faults.TalkFault.TheVariants as talks
 use Rattle.pm_words.specs.declared.refusal.Refusal.{Refusal}
 use Rattle.pm_words.specs.declared.refusal.Refusal.TheVariants.{Usage, NoMemory}
-use Rattle.pm_words.specs.Refusals.{status_of}
+use Rattle.pm_words.specs.Refusals.{full_refusal, status_of}
 use Rattle.pm_words.specs.Telling.{IsToldBy, TellsAll}
 use Rattle.pm_words.proofs.Telling.{told_by}
 use Rattle.pm_pulling.specs.declared.stop.Stop.{Stop}
 use Rattle.pm_pulling.specs.declared.stop.Stop.TheVariants.{Talk, Archive}
 use Rattle.pm_pulling.specs.Ends.{CallSide, Cause, Ends, EndsDone, HasRun, IsRefused, TellsRun, TellsStop, logged_line}
-use Rattle.pm_pulling.specs.Stops.{full_refusal, stop_refusal}
+use Rattle.pm_pulling.specs.Stops.{stop_refusal}
 
 -- ---- the statuses
 

@@ -1,12 +1,10 @@
 //! Why a call ends before all its samples are logged, and what is told of it.
 ghost use Rattle.std.specs.Prelude.{◌≡◌};
-ghost use Rattle.pm_pulling.specs.Stops.{archive_refusal, full_refusal, peer_fault, stop_refusal};
+ghost use Rattle.pm_pulling.specs.Stops.{peer_fault, stop_refusal};
 
 use logging_run::RunFault;
-use pcp_base::FileId;
 use pm_words::{PeerFault, Refusal};
 use pmcd_client::{ReplyFault, TalkFault};
-use script_runs::LimitKind;
 
 /// Why a call ends before all its samples are logged.
 #[derive(Clone, Copy)]
@@ -51,37 +49,6 @@ fn peer_fault(why: ReplyFault) -> PeerFault
     }
 }
 
-// A file would be too long, or there would be too many volumes.
-fn full_refusal(file: FileId, number: u64) -> Refusal
-    ensures { result ≡ full_refusal file number }
-{
-    let what = match file {
-        FileId::Meta => LimitKind::Meta,
-        FileId::Index => LimitKind::Index,
-        FileId::Volume(_) => LimitKind::Volume,
-    };
-    Refusal::Limit { what, number }
-}
-
-// Why nothing more is logged.
-fn archive_refusal(fault: RunFault) -> Refusal
-    ensures { result ≡ archive_refusal fault }
-{
-    match fault {
-        RunFault::Compressed { file } => Refusal::Compressed { file },
-        RunFault::NotArchive { file, at } => Refusal::NotArchive { file, at },
-        RunFault::Large { bytes } => Refusal::Limit {
-            what: LimitKind::Record,
-            number: bytes,
-        },
-        RunFault::NotLater { last } => Refusal::NotLater { last },
-        RunFault::Changed { pmid } => Refusal::Changed { pmid },
-        RunFault::Full { file, bytes } => full_refusal(file, bytes),
-        RunFault::NoMemory => Refusal::NoMemory,
-        RunFault::DiskFault => Refusal::DiskFault,
-    }
-}
-
 /// The refusal that tells why a call ended; there is none where a request couldn't be written.
 pub(crate) fn stop_refusal(stop: Stop) -> Option<Refusal>
     ensures { result ≡ stop_refusal stop }
@@ -94,6 +61,6 @@ pub(crate) fn stop_refusal(stop: Stop) -> Option<Refusal>
             reply,
             why: peer_fault(why),
         }),
-        Stop::Archive(fault) => Some(archive_refusal(fault)),
+        Stop::Archive(fault) => Some(Refusal::from(fault)),
     }
 }

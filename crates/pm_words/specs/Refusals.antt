@@ -10,6 +10,8 @@ use Rattle.archive_reader.specs.declared.fault.ReaderFault.{ReaderFault}
 use Rattle.archive_reader.specs.declared.fault.ReaderFault.TheVariants as faults
 use Rattle.archive_recovery.specs.declared.outcome.RecoverFault.{RecoverFault}
 use Rattle.archive_recovery.specs.declared.outcome.RecoverFault.TheVariants as recovering
+use Rattle.logging_run.specs.declared.fault.RunFault.{RunFault}
+use Rattle.logging_run.specs.declared.fault.RunFault.TheVariants as running
 use Rattle.pm_print.specs.FaultLines.{image_line, text_line}
 use Rattle.pm_print.specs.Sets.{pmid_text}
 use Rattle.mmv_writer.specs.declared.line_fault.LineFault.TheVariants as lines
@@ -209,6 +211,23 @@ recover_refusal (recovering.Compressed file) = Compressed file
 recover_refusal (recovering.NotArchive file at) = NotArchive file at
 recover_refusal recovering.DiskFault = DiskFault
 recover_refusal recovering.NoMemory = NoMemory
+
+-- a file would be too long, or there would be too many volumes
+abbrev pub full_refusal : FileId → ℕ → Refusal
+full_refusal Meta number = Limit kinds.Meta number
+full_refusal Index number = Limit kinds.Index number
+full_refusal (Volume k) number = Limit kinds.Volume number
+
+-- why a run's files aren't recovered, or the archive turns an item away
+abbrev pub run_refusal : RunFault → Refusal
+run_refusal (running.Compressed file) = Compressed file
+run_refusal (running.NotArchive file at) = NotArchive file at
+run_refusal (running.Large bytes) = Limit kinds.Record bytes
+run_refusal (running.NotLater last) = NotLater last
+run_refusal (running.Changed pmid) = Changed pmid
+run_refusal (running.Full file bytes) = full_refusal file bytes
+run_refusal running.NoMemory = NoMemory
+run_refusal running.DiskFault = DiskFault
 
 -- and the end of a run, if it is none
 abbrev pub ending_refusal : Ending → Option Refusal

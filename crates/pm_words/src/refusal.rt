@@ -1,6 +1,6 @@
 //! The refusals of all calls as one flat list, each with its exit status and its last line.
 ghost use Rattle.std.specs.Prelude.{◌≡◌, IfNone, IfOk, IfSome, OnErr, OnOk};
-ghost use Rattle.pm_words.specs.Refusals.{IsNumbered, Wrote, ending_refusal, line_of, status_of};
+ghost use Rattle.pm_words.specs.Refusals.{IsNumbered, Wrote, ending_refusal, full_refusal, line_of, status_of};
 
 use crate::lines::{
     changed_line, clash_line, clock_end_line, clock_fault_line, compressed_line, lacks_line,
@@ -11,6 +11,7 @@ use crate::lines::{
 use archive_check::CheckFault;
 use archive_reader::ReaderFault;
 use archive_recovery::RecoverFault;
+use logging_run::RunFault;
 use mmv_layout::ImageFault;
 use mmv_writer::{LineFault, TextFault};
 use pcp_base::{Bytes, FileId, NoMemory, Pmid, Stamp};
@@ -189,6 +190,40 @@ impl From<CheckFault> for Refusal {
             },
             CheckFault::Late { entry, stamp } => Refusal::UnsoundLate { entry, stamp },
             CheckFault::Reader(fault) => Refusal::from(fault),
+        }
+    }
+}
+
+// A file would be too long, or there would be too many volumes.
+fn full_refusal(file: FileId, number: u64) -> Refusal
+    ensures { result ≡ full_refusal file number }
+{
+    let what = match file {
+        FileId::Meta => LimitKind::Meta,
+        FileId::Index => LimitKind::Index,
+        FileId::Volume(_) => LimitKind::Volume,
+    };
+    Refusal::Limit { what, number }
+}
+
+impl From<RunFault> for Refusal {
+    ghost use Rattle.pm_words.specs.Refusals.{run_refusal};
+
+    ghost from_gives = { λ fault e. e ≡ run_refusal fault };
+
+    fn from(fault: RunFault) -> Refusal {
+        match fault {
+            RunFault::Compressed { file } => Refusal::Compressed { file },
+            RunFault::NotArchive { file, at } => Refusal::NotArchive { file, at },
+            RunFault::Large { bytes } => Refusal::Limit {
+                what: LimitKind::Record,
+                number: bytes,
+            },
+            RunFault::NotLater { last } => Refusal::NotLater { last },
+            RunFault::Changed { pmid } => Refusal::Changed { pmid },
+            RunFault::Full { file, bytes } => full_refusal(file, bytes),
+            RunFault::NoMemory => Refusal::NoMemory,
+            RunFault::DiskFault => Refusal::DiskFault,
         }
     }
 }
