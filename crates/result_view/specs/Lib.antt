@@ -1,0 +1,4 @@
+pub mod Bodies
+pub mod Laws
+pub mod Reaching
+pub mod Shown

@@ -1,0 +1,25 @@
+-- How far the words and blocks of a payload reach, without what they say.
+use Rattle.std.specs.Prelude.{◌≡◌, ℕ, List, Result, Ok, Err}
+use Rattle.pcp_base.specs.Time.{Moment}
+use Rattle.result_form.specs.declared.fault.FormFault.{FormFault}
+use Rattle.result_form.specs.Decoding.{set_end, blocks_from, set_at, payload_result}
+use Rattle.result_view.specs.declared.spans.SetSpan.{SetSpan}
+use Rattle.result_view.specs.Shown.{shown_result}
+
+-- the byte up to which was read, without what was read
+abbrev pub reach_of : {A : Type 0} → Result (A × ℕ) FormFault → Result ℕ FormFault
+reach_of (Ok x) = Ok x.1
+reach_of (Err e) = Err e
+
+-- A set's words end there, and of the pairs behind its first three words so many lead to blocks: as far as they reach,
+-- the set does.
+abbrev pub IsSpan : List ℕ → ℕ → Result SetSpan FormFault → Type 0
+IsSpan bytes at (Ok span) =
+    (set_end bytes at ≡ Ok span.next)
+    × ((end reached : ℕ) → reach_of (set_at bytes end reached at) ≡ reach_of (blocks_from bytes end reached span.blocks span.from))
+IsSpan bytes at (Err e) = set_end bytes at ≡ Err e
+
+-- What a payload says is shown, by its stamp and the number of its sets, or this is its fault.
+abbrev pub IsChecked : List ℕ → Result (Moment × ℕ) FormFault → Type 0
+IsChecked bytes (Ok found) = payload_result bytes ≡ Ok (shown_result bytes found.0 found.1)
+IsChecked bytes (Err e) = payload_result bytes ≡ Err e
