@@ -1,18 +1,16 @@
 -- The windows of a metric's instances: one more without a value, and a value more in one.
-use Rattle.std.proofs.Common.{◌≡◌, ℕ, ℤ, ◌+◌, ◌<◌, ◌≤◌, eqb, Bool, true, false, cond, ◌&&◌, List, [], ◌∷◌, ◌++◌, length, take, get_or, Option, Some, None, is_some, refl, sym, ap, ap₂, subst, ◌∙◌, arith}
-use Rattle.std.specs.Prelude.{IsSome, bytes_eq}
+use Rattle.std.proofs.Common.{◌≡◌, ℤ, ◌≤◌, eqb, Bool, true, false, cond, ◌&&◌, List, [], ◌∷◌, ◌++◌, length, get_or, Option, Some, None, is_some, refl, sym, ap, ap₂, subst, ◌∙◌, arith}
+use Rattle.std.specs.Prelude.{IsSome}
 use Rattle.std.specs.declared.cmp.Ordering.{Ordering}
 use Rattle.std.specs.declared.cmp.Ordering.TheVariants.{Less, Equal, Greater}
 use Rattle.std.specs.Ordering.{int_cmp, int_eq, is_eq}
 use Rattle.std.specs.FinMap.{int_cmp-IsAntisymmetric}
 use Rattle.std.specs.BTreeMap.{get}
-use Rattle.std.specs.List.{All}
 use Rattle.std.proofs.lemmas.Bool.{ne_eqb}
-use Rattle.std.proofs.lemmas.List.Elements.{All-more}
 use Rattle.rule_watch.specs.declared.rule.Condition.{Condition}
 use Rattle.rule_watch.specs.Aggregates.{aggregate_of}
+use Rattle.rule_watch.specs.Groups.{Group}
 use Rattle.rule_watch.specs.Holding.{compares, passes}
-use Rattle.rule_watch.specs.Rows.{Entry, Row}
 use Rattle.rule_watch.specs.Rules.{IsCondition}
 use Rattle.rule_watch.specs.Shown.{values_kept}
 use Rattle.rule_watch.specs.Watched.{HasWindows, Serves, Windows}
@@ -61,18 +59,7 @@ passes_is c w serves = ap₂ (λ n a. eqb (length w.values) n && compares c.comp
 pub none_passes : (c : Condition) → IsCondition c → false ≡ passes c []
 none_passes c is = ap (λ b. b && compares c.comparison (aggregate_of c.aggregate []) c.number) (sym (ne_eqb 0 c.size (λ e. let some : 1 ≤ c.size = is.0 in absurd (omega arith))))
 
--- Windows of a row
+-- Windows of values
 
-module _ (old new : Windows) (name : List ℕ) (keeps : (q : ℤ) → IsSome (get int_cmp old q) → IsSome (get int_cmp new q)) where
-  pub still_has : (row : Row) → HasWindows old name row → HasWindows new name row
-  still_has row has k d below of = keeps (get_or row k d).1 (has k d below of)
-
-pub has_more : (windows : Windows) (name : List ℕ) (row : Row) (i : ℕ) (e : Entry) → i < length row → e ≡ get_or row i e → HasWindows windows name (take i row)
-    → (bytes_eq e.0 name ≡ true → IsSome (get int_cmp windows e.1)) → HasWindows windows name (take (i + 1) row)
-has_more windows name row i e below is has here =
-    All-more (λ (entry : Entry). bytes_eq entry.0 name ≡ true → IsSome (get int_cmp windows entry.1)) row i e below has
-    (subst (λ (entry : Entry). bytes_eq entry.0 name ≡ true → IsSome (get int_cmp windows entry.1)) is here)
-
--- what holds of each entry holds of one that is read
-pub at_read : (P : Entry → Type 0) (row : Row) (i : ℕ) (e : Entry) → All P row → i < length row → e ≡ get_or row i e → P e
-at_read P row i e all below is = subst P (sym is) (all i e below)
+pub still_has : (old new : Windows) → ((q : ℤ) → IsSome (get int_cmp old q) → IsSome (get int_cmp new q)) → (values : Group) → HasWindows old values → HasWindows new values
+still_has old new keeps values has k d below = keeps (get_or values k d).0 (has k d below)

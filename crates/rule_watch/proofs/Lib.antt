@@ -1,5 +1,8 @@
 pub mod Conditions
+pub mod GroupSteps
+pub mod GroupValues
 pub mod InstanceWindows
+pub mod Lacking
 pub mod Labels
 pub mod Minima
 pub mod Places

@@ -1,7 +1,7 @@
 -- What is kept of all streams shows the rows so far, before a row and behind it; and what holds for the windows that are
 -- kept, holds for those rows.
 use Rattle.std.proofs.Common.{◌≡◌, ℕ, ℤ, zero, suc, ◌+◌, ◌-◌, ◌<◌, ◌≤◌, Bool, cond, ◌&&◌, ◌||◌, List, [], ◌∷◌, ◌++◌, length, map, take, get_or, ltb, Some, Result, Ok, Err, refl, sym, ap, ap₂, subst, ◌∙◌, arith, length-append}
-use Rattle.std.specs.Prelude.{slice_get, OnErr}
+use Rattle.std.specs.Prelude.{bytes_eq, position, slice_get, OnErr, OnOk}
 use Rattle.std.specs.Option.{option_map}
 use Rattle.std.specs.List.{All, AllByRecursion, Contains, list_any, list_all}
 use Rattle.std.specs.List.Sorted.{IsStrictlyIncreasing}
@@ -17,8 +17,9 @@ use Rattle.rule_watch.specs.declared.watched.WatchedCondition.{WatchedCondition}
 use Rattle.rule_watch.specs.declared.watched.WatchedRule.{WatchedRule}
 use Rattle.rule_watch.specs.Holding.{Tells, passes, quantified, condition_holds, joined, rule_holds}
 use Rattle.rule_watch.specs.Rows.{Row, values_in, values_of, instances_in, window}
+use Rattle.rule_watch.specs.Rules.{is_watched}
 use Rattle.rule_watch.specs.Shown.{Answers, IsShown, KeptRule, Shows, kept_of, rule_kept, rules_of, values_kept}
-use Rattle.rule_watch.specs.Watched.{AreWatched, EachTo, IsFresh, IsFreshRule, IsWatched, IsWatchedRule, Serves, ShowsRule, Stays, Takes, Turns, kept, kept_rule, kept_rules, places_from, rule_of, watched_holds}
+use Rattle.rule_watch.specs.Watched.{AreNames, AreWatched, EachTo, IsFresh, IsFreshRule, IsKnownRule, IsWatched, IsWatchedRule, Serves, ShowsRule, Stays, Takes, Turns, kept, kept_rule, kept_rules, places_from, rule_of, watched_holds}
 use Rattle.rule_watch.specs.Windows.{Recent, last}
 use Rattle.rule_watch.proofs.Windows.{last_last}
 use Rattle.rule_watch.proofs.Rows.{values_of_more}
@@ -62,11 +63,11 @@ all_same : {X : Type 0} (s t : X → Bool) → ((x : X) → s x ≡ t x) → (xs
 all_same s t same [] = refl
 all_same s t same (x ∷ xs) = ap₂ (λ a b. a && b) (same x) (all_same s t same xs)
 
-quantified_same : (q : Quantifier) (s t : ℤ → Bool) → ((i : ℤ) → s i ≡ t i) → (xs : List ℤ) → quantified q s xs ≡ quantified q t xs
+pub quantified_same : (q : Quantifier) (s t : ℤ → Bool) → ((i : ℤ) → s i ≡ t i) → (xs : List ℤ) → quantified q s xs ≡ quantified q t xs
 quantified_same quantifiers.Any s t same xs = any_same s t same xs
 quantified_same quantifiers.All s t same xs = ap (λ b. ltb 0 (length xs) && b) (all_same s t same xs)
 
-holds_same : (f g : ℤ → List ℤ) (row : Row) (c : Condition) → ((i : ℤ) → f i ≡ g i) → condition_holds f row c ≡ condition_holds g row c
+pub holds_same : (f g : ℤ → List ℤ) (row : Row) (c : Condition) → ((i : ℤ) → f i ≡ g i) → condition_holds f row c ≡ condition_holds g row c
 holds_same f g row c same = quantified_same c.quantifier (λ i. passes c (f i)) (λ i. passes c (g i)) (λ i. ap (passes c) (same i)) (instances_in c.name row)
 
 module _ {X Y : Type 0} (f : X → Y) (s : X → Bool) (t : Y → Bool) where
@@ -127,6 +128,16 @@ still_rule old new stays =
     (ap₂ (λ joint conditions. (joint, conditions)) stays.joint
     (maps_same (λ (w : WatchedCondition). w.condition) Stays (λ x y s. s.condition) old.conditions.items new.conditions.items stays.count stays.each))
 
+-- A condition's name keeps its number.
+module _ (R : WatchedCondition → WatchedCondition → Type 0) (condition : (x y : WatchedCondition) → R x y → y.condition ≡ x.condition) (number : (x y : WatchedCondition) → R x y → y.number ≡ x.number) where
+  pub known_rule : (names : List (List ℕ)) (old new : WatchedRule) → Turns R old new → IsKnownRule names old → IsKnownRule names new
+  known_rule names old new turns known k d below =
+      let first : k < length old.conditions.items = omega (arith, turns.count) in
+      let r = turns.each k d first in
+      let x : WatchedCondition = get_or old.conditions.items k d in
+      let y : WatchedCondition = get_or new.conditions.items k d in
+      ap (λ (c : Condition). position (bytes_eq c.name) names) (condition x y r) ∙ known k d first ∙ ap Some (sym (number x y r))
+
 -- All rules
 
 module _ (row : Row) (old mid new : List WatchedRule) (first : length mid ≡ length old) (second : length new ≡ length mid)
@@ -146,8 +157,15 @@ module _ (row : Row) (old mid new : List WatchedRule) (first : length mid ≡ le
       maps_same rule_of (λ o n. rule_of n ≡ rule_of o) (λ o n e. e) old new (second ∙ first)
       (λ k d below. same_rule [] row (get_or old k d) (get_or mid k d) (get_or new k d) (stays k d below) (takes k d (let inside : k < length mid = omega arith in inside)))
 
-  pub watched_all : length old ≤ 64 → AreWatched new
-  watched_all few = ((let most : length new ≤ 64 = omega arith in most), λ k d below. watched_takes row (get_or mid k d) (get_or new k d) (takes k d (in_mid k below)))
+  pub watched_all : (names : List (List ℕ)) → AreWatched names old → AreWatched names new
+  watched_all names are = record {
+    few = (let most : length new ≤ 64 = omega (arith, are.few) in most);
+    each = λ k d below. watched_takes row (get_or mid k d) (get_or new k d) (takes k d (in_mid k below));
+    known = λ k d below.
+        known_rule (Takes row) (λ x y t. t.condition) (λ x y t. t.number) names (get_or mid k d) (get_or new k d) (takes k d (in_mid k below))
+        (known_rule Stays (λ x y s. s.condition) (λ x y s. s.number) names (get_or old k d) (get_or mid k d) (stays k d (in_old k below)) (are.known k d (in_old k below)));
+    named = λ name. are.named name ∙ ap (λ (rules : List Rule). is_watched rules name) (sym same_rules);
+  }
 
 module _ (old new : List WatchedRule) (first : length new ≡ length old) (stays : EachTo (Turns Stays) old new) where
   in_first : (k : ℕ) → k < length new → k < length old
@@ -159,8 +177,13 @@ module _ (old new : List WatchedRule) (first : length new ≡ length old) (stays
   pub still_map : map rule_of new ≡ map rule_of old
   still_map = maps_same rule_of (λ o n. rule_of n ≡ rule_of o) (λ o n e. e) old new first (λ k d below. still_rule (get_or old k d) (get_or new k d) (stays k d below))
 
-  pub still_watched : length old ≤ 64 → AreWatched new
-  still_watched few = ((let most : length new ≤ 64 = omega arith in most), λ k d below. watched_stays (get_or old k d) (get_or new k d) (stays k d (in_first k below)))
+  pub still_watched : (names : List (List ℕ)) → AreWatched names old → AreWatched names new
+  still_watched names are = record {
+    few = (let most : length new ≤ 64 = omega (arith, are.few) in most);
+    each = λ k d below. watched_stays (get_or old k d) (get_or new k d) (stays k d (in_first k below));
+    known = λ k d below. known_rule Stays (λ x y s. s.condition) (λ x y s. s.number) names (get_or old k d) (get_or new k d) (stays k d (in_first k below)) (are.known k d (in_first k below));
+    named = λ name. are.named name ∙ ap (λ (rules : List Rule). is_watched rules name) (sym still_map);
+  }
 
 -- The numbers
 
@@ -172,7 +195,7 @@ slice_at : (rows : List Row) (row : Row) → slice_get (rows ++ row ∷ []) (len
 slice_at [] row = refl
 slice_at (first ∷ rows) row = slice_at rows row
 
-some_same : (x y : Row) → Some x ≡ Some y → x ≡ y
+pub some_same : (x y : Row) → Some x ≡ Some y → x ≡ y
 some_same x y e = cc
 
 none_more : (n : ℕ) → 0 + n ≡ n
@@ -181,13 +204,13 @@ none_more n = omega arith
 zero_more : (n k : ℕ) → n ≡ 0 + k → n ≡ k
 zero_more n k e = omega arith
 
-at_end : (rows : List Row) (row : Row) → slice_get (rows ++ row ∷ []) (length (rows ++ row ∷ []) - 1) ≡ Some row
+pub at_end : (rows : List Row) (row : Row) → slice_get (rows ++ row ∷ []) (length (rows ++ row ∷ []) - 1) ≡ Some row
 at_end rows row =
     let long : length (rows ++ row ∷ []) ≡ length rows + 1 = length-append rows (row ∷ []) in
     let at : length (rows ++ row ∷ []) - 1 ≡ length rows = omega arith in
     ap (slice_get (rows ++ row ∷ [])) at ∙ slice_at rows row
 
-whole : (rows : List Row) (row : Row) → take (length (rows ++ row ∷ []) - 1 + 1) (rows ++ row ∷ []) ≡ rows ++ row ∷ []
+pub whole : (rows : List Row) (row : Row) → take (length (rows ++ row ∷ []) - 1 + 1) (rows ++ row ∷ []) ≡ rows ++ row ∷ []
 whole rows row = take_all (length (rows ++ row ∷ []) - 1 + 1) (rows ++ row ∷ []) (omega (arith, length-append rows (row ∷ [])))
 
 pub tells : (rules : List Rule) (rows : List Row) (row : Row) (numbers : List ℕ) → numbers ≡ places_from 0 (rule_holds (rows ++ row ∷ []) row) rules → Tells rules (rows ++ row ∷ []) numbers
@@ -293,8 +316,13 @@ fresh_condition w fresh = (fresh.0, λ i. subst (Serves w.condition) (sym (fresh
 pub fresh_shows : (rules : List WatchedRule) → All IsFreshRule rules → Shows (kept_rules rules) []
 fresh_shows rules fresh = shows_in [] rules (λ k d below. fresh_rule (get_or rules k d) (fresh k d below))
 
-pub fresh_watched : (rules : List WatchedRule) → length rules ≤ 64 → All IsFreshRule rules → AreWatched rules
-fresh_watched rules few fresh = (few, λ k d below j e inside. fresh_condition (get_or (get_or rules k d).conditions.items j e) (fresh k d below j e inside))
+pub fresh_watched : (names : List (List ℕ)) (rules : List WatchedRule) → length rules ≤ 64 → All IsFreshRule rules → All (IsKnownRule names) rules → AreNames names (map rule_of rules) → AreWatched names rules
+fresh_watched names rules few fresh known named = record {
+  few = few;
+  each = λ k d below j e inside. fresh_condition (get_or (get_or rules k d).conditions.items j e) (fresh k d below j e inside);
+  known = known;
+  named = named;
+}
 
 -- By equations
 
@@ -311,3 +339,7 @@ shows_same old old' new new' a b h rows shows = subst (λ (n : List KeptRule). S
 pub on_err : {T E : Type 0} (r : Result T E) {P : Type 0} → P → OnErr r P
 on_err (Ok x) p = tt
 on_err (Err e) p = p
+
+pub on_ok : {T E : Type 0} (r : Result T E) {P Q : Type 0} → (P → Q) → OnOk r P → OnOk r Q
+on_ok (Ok x) f p = f p
+on_ok (Err e) f p = tt

@@ -1,12 +1,13 @@
--- That rules are read as they are written and no others are, and what a watch told after many pushes.
+-- That rules are read as they are written and no others are, what a watch told after many pushes, and what a row may lack.
 use Rattle.std.specs.Prelude.{◌≡◌, ◌≢◌, ℕ, List, [], ◌∷◌, ◌++◌, codes, Some, Result, Ok, Err, IfOk, OnErr}
+use Rattle.std.specs.List.{filter}
 use Rattle.pcp_base.specs.declared.memory.NoMemory.{NoMemory}
 use Rattle.rule_watch.specs.declared.rule.Rule.{Rule}
 use Rattle.rule_watch.specs.Holding.{Tells}
 use Rattle.rule_watch.specs.Lines.{rule_of}
 use Rattle.rule_watch.specs.Rows.{Row}
 use Rattle.rule_watch.specs.Reading as reading
-use Rattle.rule_watch.specs.Rules.{AreRules, IsWritten}
+use Rattle.rule_watch.specs.Rules.{AreRules, IsWritten, is_watched}
 use Rattle.rule_watch.specs.Shown.{Answers, KeptRule, Shows, rules_of}
 use Rattle.rule_watch.specs.Spelling.{rule_text, rules_text}
 
@@ -57,3 +58,11 @@ abbrev pub PushesTell : Type 0
 PushesTell = (rules : List Rule) (first last : List KeptRule) (before behind : List Push) (row : Row) (numbers : List ℕ) →
     rules_of first ≡ rules → Shows first [] → ArePushes first (before ++ (row, Ok numbers) ∷ behind) last →
     Tells rules (taken before ++ row ∷ []) numbers
+
+-- a row without the values of names that no rule speaks of
+abbrev pub watched_row : List Rule → Row → Row
+watched_row rules row = filter (λ entry. is_watched rules entry.0) row
+
+-- Of a watch that keeps its rules: what is answered to such a row is an answer to the whole row.
+abbrev pub RowsMayLackOthers : Type 0
+RowsMayLackOthers = (old new : List KeptRule) (row : Row) (numbers : List ℕ) → rules_of new ≡ rules_of old → Answers old (watched_row (rules_of old) row) new numbers → Answers old row new numbers

@@ -1,5 +1,6 @@
 pub mod Aggregates
 pub mod Faults
+pub mod Groups
 pub mod Holding
 pub mod Laws
 pub mod Lines

@@ -39,3 +39,7 @@ pub record AreRules (rules : List Rule) : Type 0 where
 -- a rule has the label
 abbrev pub has_label : List Rule → List ℕ → Bool
 has_label rules label = list_any (λ rule. bytes_eq rule.label label) rules
+
+-- some condition of some rule is on the metric of this name
+abbrev pub is_watched : List Rule → List ℕ → Bool
+is_watched rules name = list_any (λ rule. list_any (λ c. bytes_eq name c.name) rule.conditions) rules

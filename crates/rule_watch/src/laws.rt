@@ -1,5 +1,5 @@
-//! That rules are read as they are written, and what many pushes tell.
-ghost use Rattle.rule_watch.specs.Laws.{OnlyRulesAreRead, PushesTell, RulesAreRead, SpellingIsOne, TextsAreRead};
+//! That rules are read as they are written, what many pushes tell, and what a row may lack.
+ghost use Rattle.rule_watch.specs.Laws.{OnlyRulesAreRead, PushesTell, RowsMayLackOthers, RulesAreRead, SpellingIsOne, TextsAreRead};
 
 /// What is written of a rule is read as that rule, and what is written of all rules of a text as these.
 pub fn rules_are_read()
@@ -17,4 +17,10 @@ pub fn only_rules_are_read()
 /// that hold at its row, as the rows that were taken so far say.
 pub fn pushes_tell()
     ensures { PushesTell }
+{}
+
+/// A row may be handed over without the values of names that aren't watched: what was answered and what is kept then is what
+/// the whole row asks for.
+pub fn rows_may_lack_others()
+    ensures { RowsMayLackOthers }
 {}

@@ -5,6 +5,7 @@
 
 mod aggregate;
 mod fault;
+mod groups;
 mod laws;
 mod line;
 mod queue;
@@ -18,7 +19,7 @@ mod window;
 
 pub use aggregate::Aggregate;
 pub use fault::{ReadRulesError, RuleFault, RuleLineFault};
-pub use laws::{only_rules_are_read, pushes_tell, rules_are_read};
+pub use laws::{only_rules_are_read, pushes_tell, rows_may_lack_others, rules_are_read};
 pub use reading::Rules;
 pub use rule::{Comparison, Condition, Joint, Quantifier, Rule};
 pub use watch::Watch;

@@ -1,29 +1,23 @@
 //! The windows of a condition, one for each instance of its metric. A window for each instance of a row is made before the
 //! first value is taken, so that whatever can be refused is refused while nothing has changed.
-ghost use Rattle.std.specs.Prelude.{◌≡◌, ℤ, ◌&&◌, nat_lt, length, ◌∷◌, [], ◌++◌, IsSome, OnOk, if◌then◌else◌};
+ghost use Rattle.std.specs.Prelude.{◌≡◌, ℤ, ◌∷◌, [], ◌++◌, IsSome, OnOk, if◌then◌else◌};
 ghost use Rattle.std.specs.Ordering.{int_cmp, int_eq};
 ghost use Rattle.std.specs.BTreeMap.{get};
 ghost use Rattle.std.specs.List.{list_any, list_all};
-ghost use Rattle.rule_watch.specs.Holding.{compares, condition_holds, passes};
-ghost use Rattle.rule_watch.specs.Rows.{instances_in, is_of, values_in};
+ghost use Rattle.rule_watch.specs.Groups.{AreNumbers, numbers_of};
+ghost use Rattle.rule_watch.specs.Holding.{compares, passes};
 ghost use Rattle.rule_watch.specs.Rules.{IsCondition};
-ghost use Rattle.rule_watch.specs.Watched.{AreOf, AreValues, HasWindows, kept};
+ghost use Rattle.rule_watch.specs.Watched.{AreOf, HasWindows, group_holds, kept};
 ghost use Rattle.rule_watch.specs.Windows.{IsValue, last};
 
 use crate::rule::{Comparison, Condition, Quantifier};
 use crate::window::Window;
-use pcp_base::{NoMemory, Text};
+use pcp_base::NoMemory;
 use std::alloc::Global;
 use std::collections::BTreeMap;
 
 /// The windows of a metric's instances.
 pub type Windows = BTreeMap<i32, Window>;
-
-fn is_of(condition: &Condition, entry: &(Text, i32, i128)) -> bool
-    ensures { result ≡ is_of condition.now.name entry.now }
-{
-    entry.0.as_slice() == condition.name.as_slice()
-}
 
 // Makes a window for an instance, where there is none yet.
 fn make_window(
@@ -47,24 +41,22 @@ fn make_window(
     Ok(())
 }
 
-/// Makes a window for each instance of the condition's metric in a row, where there is none yet. No value changes, also
-/// where memory is refused.
+/// Makes a window for each instance of a metric's values, where there is none yet. No value changes, also where memory is
+/// refused.
 pub fn make_windows(
     alloc: Global,
     windows: &mut Windows,
     condition: &Condition,
-    row: &[(Text, i32, i128)],
+    values: &[(i32, i128)],
 ) -> Result<(), NoMemory>
     requires condition { IsCondition condition.now }
     requires serve { AreOf condition.now windows.old }
     ensures serve { AreOf condition.now windows.new }
     ensures same { (q : ℤ) → kept windows.new q ≡ kept windows.old q }
-    ensures windows { OnOk result (HasWindows windows.new condition.now.name row.now) }
+    ensures windows { OnOk result (HasWindows windows.new values.now) }
 {
-    for entry in row {
-        if is_of(condition, entry) {
-            make_window(alloc, windows, condition, entry.1)?;
-        }
+    for value in values {
+        make_window(alloc, windows, condition, value.0)?;
     }
     Ok(())
 }
@@ -84,18 +76,16 @@ fn push_value(windows: &mut Windows, condition: &Condition, instance: i32, numbe
     window.push(number);
 }
 
-/// Puts the values of a row into the windows of their instances. It takes no memory.
-pub fn push_values(windows: &mut Windows, condition: &Condition, row: &[(Text, i32, i128)])
+/// Puts a metric's values into the windows of their instances. It takes no memory.
+pub fn push_values(windows: &mut Windows, condition: &Condition, values: &[(i32, i128)])
     requires serve { AreOf condition.now windows.old }
-    requires windows { HasWindows windows.old condition.now.name row.now }
-    requires values { AreValues row.now }
+    requires windows { HasWindows windows.old values.now }
+    requires values { AreNumbers values.now }
     ensures serve { AreOf condition.now windows.new }
-    ensures values { (q : ℤ) → kept windows.new q ≡ last condition.now.size (kept windows.old q ++ values_in condition.now.name q row.now) }
+    ensures values { (q : ℤ) → kept windows.new q ≡ last condition.now.size (kept windows.old q ++ numbers_of q values.now) }
 {
-    for entry in row {
-        if is_of(condition, entry) {
-            push_value(windows, condition, entry.1, entry.2);
-        }
+    for value in values {
+        push_value(windows, condition, value.0, value.1);
     }
 }
 
@@ -125,48 +115,40 @@ fn passes(windows: &Windows, condition: &Condition, instance: i32) -> bool
     window.is_full() && compares(condition.comparison, &window.told(), &condition.number)
 }
 
-fn any_passes(windows: &Windows, condition: &Condition, row: &[(Text, i32, i128)]) -> bool
+fn any_passes(windows: &Windows, condition: &Condition, values: &[(i32, i128)]) -> bool
     requires condition { IsCondition condition.now }
     requires serve { AreOf condition.now windows.now }
-    ensures { result ≡ list_any (λ q. passes condition.now (kept windows.now q)) (instances_in condition.now.name row.now) }
+    ensures { result ≡ list_any (λ v. passes condition.now (kept windows.now v.0)) values.now }
 {
-    for entry in row {
-        if !is_of(condition, entry) {
-            continue;
-        }
-        if passes(windows, condition, entry.1) {
+    for value in values {
+        if passes(windows, condition, value.0) {
             return true;
         }
     }
     false
 }
 
-fn all_pass(windows: &Windows, condition: &Condition, row: &[(Text, i32, i128)]) -> bool
+fn all_pass(windows: &Windows, condition: &Condition, values: &[(i32, i128)]) -> bool
     requires condition { IsCondition condition.now }
     requires serve { AreOf condition.now windows.now }
-    ensures { result ≡ (nat_lt 0 (length (instances_in condition.now.name row.now)) && list_all (λ q. passes condition.now (kept windows.now q)) (instances_in condition.now.name row.now)) }
+    ensures { result ≡ list_all (λ v. passes condition.now (kept windows.now v.0)) values.now }
 {
-    let mut is_there = false;
-    for entry in row {
-        if !is_of(condition, entry) {
-            continue;
-        }
-        if !passes(windows, condition, entry.1) {
+    for value in values {
+        if !passes(windows, condition, value.0) {
             return false;
         }
-        is_there = true;
     }
-    is_there
+    true
 }
 
-/// Whether the condition holds at a row whose values were put into the windows.
-pub fn holds(windows: &Windows, condition: &Condition, row: &[(Text, i32, i128)]) -> bool
+/// Whether the condition holds at a row whose values of the metric were put into the windows.
+pub fn holds(windows: &Windows, condition: &Condition, values: &[(i32, i128)]) -> bool
     requires condition { IsCondition condition.now }
     requires serve { AreOf condition.now windows.now }
-    ensures { result ≡ condition_holds (kept windows.now) row.now condition.now }
+    ensures { result ≡ group_holds (kept windows.now) values.now condition.now }
 {
     match condition.quantifier {
-        Quantifier::Any => any_passes(windows, condition, row),
-        Quantifier::All => all_pass(windows, condition, row),
+        Quantifier::Any => any_passes(windows, condition, values),
+        Quantifier::All => !values.is_empty() && all_pass(windows, condition, values),
     }
 }

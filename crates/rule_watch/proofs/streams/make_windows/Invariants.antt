@@ -1,11 +1,11 @@
--- The entries before the index have their windows, and no value has changed.
+-- The values before the index have their windows, and no value has changed.
 use Rattle.std.proofs.Common.{◌≡◌, ℤ, take}
 use Rattle.rule_watch.specs.Watched.{AreOf, HasWindows, kept}
 use Rattle.rule_watch.proofs.streams.make_windows.Given as goal
 
-abbrev pub invariant-loop-entry : goal.invariant-loop-entry
-invariant-loop-entry l = record {
+abbrev pub invariant-loop-value : goal.invariant-loop-value
+invariant-loop-value l = record {
   serve : AreOf l.condition l.windows;
   same : (q : ℤ) → kept l.windows q ≡ kept l.initial.windows q;
-  windows : HasWindows l.windows l.condition.name (take l.entry-index l.row);
+  windows : HasWindows l.windows (take l.value-index l.values);
 }

@@ -16,6 +16,9 @@ loop-rule-preserved c =
     let was = was_old now old i c.rule-item.result first c.rule-item.is c.loop-rule.invariant.same in
     record {
       stays = each_set (λ k d (x : WatchedRule). Turns Stays (get_or old k d) x) now i new inside c.loop-rule.invariant.stays (λ d. subst (λ (x : WatchedRule). Turns Stays x new) (sym c.rule-item.is ∙ was d) c.in_ok-prepare_rule.ensures.stays);
-      ready = each_set (λ k d (x : WatchedRule). IsReadyRule c.args.row.now x) now i new inside c.loop-rule.invariant.ready (λ d. c.in_ok-prepare_rule.ensures.ready);
+      ready = each_set (λ k d (x : WatchedRule). IsReadyRule c.args.groups.now.groups x) now i new inside c.loop-rule.invariant.ready (λ d. c.in_ok-prepare_rule.ensures.ready);
       same = rest_set now old i new c.loop-rule.invariant.same;
     }
+
+pub returns-clause-ready : goal.returns-clause-ready
+returns-clause-ready c = λ k d below. let before : k < c.loop-rule.rule-index = omega arith in c.loop-rule.invariant.ready k d before

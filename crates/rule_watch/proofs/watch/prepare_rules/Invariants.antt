@@ -7,6 +7,6 @@ use Rattle.rule_watch.proofs.watch.prepare_rules.Given as goal
 abbrev pub invariant-loop-rule : goal.invariant-loop-rule
 invariant-loop-rule l = record {
   stays : (k : ℕ) (d : WatchedRule) → k < l.rule-index → Turns Stays (get_or l.initial.rules k d) (get_or l.rules k d);
-  ready : (k : ℕ) (d : WatchedRule) → k < l.rule-index → IsReadyRule l.row (get_or l.rules k d);
+  ready : (k : ℕ) (d : WatchedRule) → k < l.rule-index → IsReadyRule l.groups.groups (get_or l.rules k d);
   same : (k : ℕ) (d : WatchedRule) → l.rule-index ≤ k → get_or l.rules k d ≡ get_or l.initial.rules k d;
 }

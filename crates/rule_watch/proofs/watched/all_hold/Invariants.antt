@@ -1,9 +1,9 @@
 -- All conditions before the index hold.
 use Rattle.std.proofs.Common.{◌≡◌, true, take}
 use Rattle.std.specs.List.{list_all}
-use Rattle.rule_watch.specs.Holding.{condition_holds}
-use Rattle.rule_watch.specs.Watched.{kept}
+use Rattle.rule_watch.specs.Groups.{group_at}
+use Rattle.rule_watch.specs.Watched.{group_holds, kept}
 use Rattle.rule_watch.proofs.watched.all_hold.Given as goal
 
 abbrev pub invariant-loop-watched : goal.invariant-loop-watched
-invariant-loop-watched l = list_all (λ w. condition_holds (kept w.windows) l.row w.condition) (take l.watched-index l.conditions) ≡ true
+invariant-loop-watched l = list_all (λ w. group_holds (kept w.windows) (group_at l.groups.groups w.number) w.condition) (take l.watched-index l.conditions) ≡ true

@@ -16,6 +16,6 @@ loop-watched-preserved c =
     let was = was_old now old i c.watched-item.result first c.watched-item.is c.loop-watched.invariant.same in
     record {
       stays = each_set (λ k d (x : WatchedCondition). Stays (get_or old k d) x) now i new inside c.loop-watched.invariant.stays (λ d. subst (λ (x : WatchedCondition). Stays x new) (sym c.watched-item.is ∙ was d) c.in_ok-prepare.ensures.stays);
-      ready = each_set (λ k d (x : WatchedCondition). IsReady c.args.row.now x) now i new inside c.loop-watched.invariant.ready (λ d. c.in_ok-prepare.ensures.ready);
+      ready = each_set (λ k d (x : WatchedCondition). IsReady c.args.groups.now.groups x) now i new inside c.loop-watched.invariant.ready (λ d. c.in_ok-prepare.ensures.ready);
       same = rest_set now old i new c.loop-watched.invariant.same;
     }

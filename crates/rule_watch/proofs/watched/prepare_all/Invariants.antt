@@ -7,6 +7,6 @@ use Rattle.rule_watch.proofs.watched.prepare_all.Given as goal
 abbrev pub invariant-loop-watched : goal.invariant-loop-watched
 invariant-loop-watched l = record {
   stays : (k : ℕ) (d : WatchedCondition) → k < l.watched-index → Stays (get_or l.initial.conditions k d) (get_or l.conditions k d);
-  ready : (k : ℕ) (d : WatchedCondition) → k < l.watched-index → IsReady l.row (get_or l.conditions k d);
+  ready : (k : ℕ) (d : WatchedCondition) → k < l.watched-index → IsReady l.groups.groups (get_or l.conditions k d);
   same : (k : ℕ) (d : WatchedCondition) → l.watched-index ≤ k → get_or l.conditions k d ≡ get_or l.initial.conditions k d;
 }

@@ -1,11 +1,11 @@
 -- The conditions before the index took the row, and the others are as they were.
 use Rattle.std.proofs.Common.{◌≡◌, ℕ, ◌<◌, ◌≤◌, get_or}
 use Rattle.rule_watch.specs.declared.watched.WatchedCondition.{WatchedCondition}
-use Rattle.rule_watch.specs.Watched.{Takes}
+use Rattle.rule_watch.specs.Watched.{TakesGroup}
 use Rattle.rule_watch.proofs.watched.take_all.Given as goal
 
 abbrev pub invariant-loop-watched : goal.invariant-loop-watched
 invariant-loop-watched l = record {
-  takes : (k : ℕ) (d : WatchedCondition) → k < l.watched-index → Takes l.row (get_or l.initial.conditions k d) (get_or l.conditions k d);
+  takes : (k : ℕ) (d : WatchedCondition) → k < l.watched-index → TakesGroup l.groups.groups (get_or l.initial.conditions k d) (get_or l.conditions k d);
   same : (k : ℕ) (d : WatchedCondition) → l.watched-index ≤ k → get_or l.conditions k d ≡ get_or l.initial.conditions k d;
 }
