@@ -1,3 +1,4 @@
+pub mod Again
 pub mod Enough
 pub mod Firsts
 pub mod Grown

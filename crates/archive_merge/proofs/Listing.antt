@@ -12,6 +12,7 @@ use Rattle.archive_merge.specs.Laws.{AreOfSources, IsListedSo, SaysSo, Uses}
 use Rattle.archive_merge.specs.Naming.{Pairs, fact_from, name_in, pairs_at}
 use Rattle.archive_merge.proofs.Enough.{flipped, found_here, found_past, kept_all, listed_found}
 use Rattle.archive_merge.proofs.Held.{held_is_found, nothing_held}
+use Rattle.archive_merge.proofs.Again.{none_taken}
 use Rattle.archive_merge.proofs.Reasons.{stand_so, unused_so, used_from, used_only, used_there}
 
 pub say_so : (records : List MetaRecord) (pmid indom : ℕ) (t : Moment) → SaysSo records pmid indom t
@@ -30,10 +31,6 @@ listed_none make k (d ∷ all) h = by (nat_eq k d) refl h (listed_none make k al
     by : (c : Bool) → nat_eq k d ≡ c → (c || has_domain k all) ≡ false → (has_domain k all ≡ false → listed_of (map (λ (e : ℕ). (e, make e)) all) k ≡ None) → listed_of (map (λ (e : ℕ). (e, make e)) (d ∷ all)) k ≡ None
     by true e g more = absurd (cc)
     by false e g more = ap (λ (b : Bool). cond b (Some (d, make d)) (listed_of (map (λ (e : ℕ). (e, make e)) all) k)) (flipped k d e) ∙ more g
-
-none_taken : (pairs : Pairs) → filter (λ p. is_none (name_in p.0 [])) pairs ≡ pairs
-none_taken [] = refl
-none_taken (p ∷ pairs) = ap (λ (l : Pairs). p ∷ l) (none_taken pairs)
 
 module _ (first second : List MetaRecord) (t : Moment) (ours theirs : List ValueSet) where
   pub of_sources : (set : ValueSet) (fact : Desc × List ℕ) → AreOfSources first second t ours theirs set fact

@@ -1,6 +1,6 @@
 -- What tables and lists are looked up for.
 use Rattle.std.proofs.Common.{◌≡◌, ◌≢◌, inl, inr, ℕ, zero, suc, ℤ, ◌+◌, ◌≤◌, ◌<◌, ◌⊎◌, get_or, Bool, true, false, ◌||◌, ◌==◌, cond, nat_eq, nat_lt, List, [], ◌∷◌, ◌++◌, length, take, drop, refl, sym, ap, ◌∙◌, subst, arith, w32, to_z, of_z, add-one, append_assoc, Option, Some, None}
-use Rattle.std.specs.Prelude.{filter, is_none, is_some, option_to_list, FitsSigned, MatchOption}
+use Rattle.std.specs.Prelude.{filter, is_none, is_some, option_map, option_to_list, FitsSigned, MatchOption}
 use Rattle.std.specs.BTreeMap.{is_at}
 use Rattle.std.specs.BTreeSet.{BTreeSet, Updates, contains}
 use Rattle.std.specs.List.{list_all, list_any, slice_get}
@@ -20,7 +20,7 @@ use Rattle.pcp_model.specs.declared.records.MetaRecord.{MetaRecord}
 use Rattle.pcp_model.specs.Described.{HoldsAt}
 use Rattle.archive_merge.specs.Facts.{HasNumbers, has_domain, kept_of, listed_where, pairs_in}
 use Rattle.archive_merge.specs.Merging.{Sees, has_metric}
-use Rattle.archive_merge.specs.Naming.{Pairs, differ, name_in, pairs_at, renames}
+use Rattle.archive_merge.specs.Naming.{Pairs, differ, is_numbered, name_in, pairs_at, renames}
 use Rattle.archive_merge.proofs.Held.{held_is_found, nothing_held}
 
 -- ---- numbers in tables
@@ -101,6 +101,30 @@ module _ (instance : ℤ) (pairs : Pairs) (at : ℕ) where
   name_behind p e other =
       ap (λ n. name_in instance (drop n pairs)) (add-one at)
       ∙ sym (ap (name_in instance) (get_drop pairs at p e) ∙ ap (λ (b : Bool). cond b (Some p.1) (name_in instance (drop (suc at) pairs))) (not_equal p.0 instance other))
+
+-- whether it has a name is seen by numbers
+pub numbered_none : (instance : ℤ) (o : Option (ℤ × List ℕ)) → option_map (λ p. p.0) o ≡ None → is_numbered instance o ≡ false
+numbered_none instance None e = refl
+numbered_none instance (Some p) e = absurd (cc)
+
+pub numbered_some : (instance n : ℤ) (o : Option (ℤ × List ℕ)) → option_map (λ p. p.0) o ≡ Some n → is_numbered instance o ≡ int_eq n instance
+numbered_some instance n None e = absurd (cc)
+numbered_some instance n (Some p) e = let same : p.0 ≡ n = cc in ap (λ (m : ℤ). int_eq m instance) same
+
+pub has_here : (instance : ℤ) (pairs : Pairs) (at : ℕ) → is_numbered instance (slice_get pairs at) ≡ true → is_some (name_in instance (drop at pairs)) ≡ true
+has_here instance [] zero e = absurd (cc)
+has_here instance [] (suc at) e = absurd (cc)
+has_here instance (p ∷ pairs) zero e = ap (λ (b : Bool). is_some (cond b (Some p.1) (name_in instance pairs))) e
+has_here instance (p ∷ pairs) (suc at) e = has_here instance pairs at e
+
+has_behind : (instance : ℤ) (pairs : Pairs) (at : ℕ) → is_numbered instance (slice_get pairs at) ≡ false → is_some (name_in instance (drop (suc at) pairs)) ≡ is_some (name_in instance (drop at pairs))
+has_behind instance [] zero e = refl
+has_behind instance [] (suc at) e = refl
+has_behind instance (p ∷ pairs) zero e = sym (ap (λ (b : Bool). is_some (cond b (Some p.1) (name_in instance pairs))) e)
+has_behind instance (p ∷ pairs) (suc at) e = has_behind instance pairs at e
+
+pub has_further : (instance : ℤ) (pairs : Pairs) (at : ℕ) → is_numbered instance (slice_get pairs at) ≡ false → is_some (name_in instance (drop (at + 1) pairs)) ≡ is_some (name_in instance (drop at pairs))
+has_further instance pairs at e = ap (λ (n : ℕ). is_some (name_in instance (drop n pairs))) (add-one at) ∙ has_behind instance pairs at e
 
 pub held_found : (o : Option Pairs) (records : List MetaRecord) (indom : ℕ) (t : Moment) → MatchOption o ((pairs : Pairs) → HoldsAt records indom t pairs → ⊥) (HoldsAt records indom t) → pairs_in o ≡ pairs_at records indom t
 held_found None records indom t none = sym (nothing_held indom t records none)

@@ -56,6 +56,11 @@ abbrev pub name_in : ℤ → Pairs → Option (List ℕ)
 name_in instance [] = None
 name_in instance (p ∷ pairs) = if int_eq p.0 instance then Some p.1 else name_in instance pairs
 
+-- whether a pair has this number
+abbrev pub is_numbered : ℤ → Option (ℤ × List ℕ) → Bool
+is_numbered instance None = false
+is_numbered instance (Some p) = int_eq p.0 instance
+
 -- whether all that a set shows have names
 abbrev pub names_all : Pairs → Body → Bool
 names_all pairs (InPlace shown) = list_all (λ p. is_some (name_in p.0 pairs)) shown

@@ -1,11 +1,8 @@
 //! What describes the sets of a stamp.
-ghost use Rattle.std.specs.Prelude.{◌≡◌, ◌⊎◌, ◌≤◌, ◌++◌, fold, length, map, None, Some, take, drop, IfErr, IfOk, OnOk};
-ghost use Rattle.archive_merge.specs.Facts.{domain_facts, domains_used, fact_of_set, facts_about, facts_between, misfit_between, with_used};
-ghost use Rattle.archive_merge.specs.declared.fault.MergeFault.TheVariants.{NoMemory as Refused};
+ghost use Rattle.std.specs.Prelude.{◌≡◌, ◌++◌, fold, length, map, IfOk, OnOk};
+ghost use Rattle.archive_merge.specs.Facts.{domain_facts, domains_used, fact_of_set, facts_about, facts_between, with_used};
 
-use crate::fault::MergeFault;
 use crate::lists::{Instances, held_where, listed};
-use crate::misfits::misfit_between;
 use crate::naming::fact_about;
 use archive_meta::{Facts, MetaState, has_values};
 use pcp_base::{Desc, Duplicate, InDom, List, NoMemory, Stamp, Text, ValueSet};
@@ -47,7 +44,7 @@ fn note_domains(
 }
 
 /// The domains that sets use.
-fn domains_used(
+pub(crate) fn domains_used(
     alloc: Global,
     meta: &MetaState,
     sets: &[ValueSet],
@@ -116,50 +113,28 @@ fn domain_facts(
     Ok(domains)
 }
 
-/// The facts of sets that can be described.
-fn facts_between(
+/// The facts of sets that can be described, and how many of the metrics are of the first source's sets.
+pub(crate) fn facts_between(
     alloc: Global,
     first: &MetaState,
     second: &MetaState,
     t: Stamp,
     used: &BTreeSet<InDom>,
+    others: &BTreeSet<InDom>,
     ours: &[ValueSet],
     theirs: &[ValueSet],
-) -> Result<Facts, NoMemory>
-    requires { used.now.keys ≡ domains_used first.now ours.now }
-    ensures { IfOk result (λ facts. facts ≡ facts_between first.now second.now t ours.now theirs.now) }
+) -> Result<(Facts, usize), NoMemory>
+    requires used { used.now.keys ≡ domains_used first.now ours.now }
+    requires others { others.now.keys ≡ domains_used second.now theirs.now }
+    ensures facts { IfOk result (λ made. made.0 ≡ facts_between first.now second.now t ours.now theirs.now) }
+    ensures count { IfOk result (λ made. made.1 ≡ length (facts_about first.now ours.now)) }
 {
     let mut metrics = List::empty(alloc);
     push_facts(alloc, &mut metrics, first, ours)?;
+    let count = metrics.len();
     push_facts(alloc, &mut metrics, second, theirs)?;
-    let others = domains_used(alloc, second, theirs)?;
     let mut all = domains_used(alloc, first, ours)?;
     note_domains(second, &mut all, theirs)?;
-    let domains = domain_facts(alloc, first, second, t, used, &others, &all)?;
-    Ok(Facts { metrics, domains })
-}
-
-/// What describes the sets of a stamp, of which so many, the first ones, are the first source's. A source's metrics and instances are those that
-/// its records say at that stamp.
-pub fn describe(
-    alloc: Global,
-    first: &MetaState,
-    second: &MetaState,
-    t: Stamp,
-    sets: &[ValueSet],
-    count: usize,
-) -> Result<Facts, MergeFault>
-    requires { count ≤ length sets.now }
-    ensures facts { IfOk result (λ facts. (misfit_between first.now second.now t (take count sets.now) (drop count sets.now) ≡ None)
-        × (facts ≡ facts_between first.now second.now t (take count sets.now) (drop count sets.now))) }
-    ensures fault { IfErr result (λ e. (e ≡ Refused) ⊎ (misfit_between first.now second.now t (take count sets.now) (drop count sets.now) ≡ Some e)) }
-{
-    let ours = &sets[..count];
-    let theirs = &sets[count..];
-    let used = domains_used(alloc, first, ours)?;
-    if let Some(fault) = misfit_between(first, second, t, &used, ours, theirs) {
-        return Err(fault);
-    }
-    let facts = facts_between(alloc, first, second, t, &used, ours, theirs)?;
-    Ok(facts)
+    let domains = domain_facts(alloc, first, second, t, used, others, &all)?;
+    Ok((Facts { metrics, domains }, count))
 }

@@ -1,5 +1,5 @@
 //! The instances that are listed of a domain for both sources.
-ghost use Rattle.std.specs.Prelude.{◌≡◌, ◌++◌, ◌<◌, length, option_to_list, IfOk, OnOk};
+ghost use Rattle.std.specs.Prelude.{◌≡◌, ◌++◌, ◌<◌, length, option_to_list, IsTrue, IfOk, OnOk};
 ghost use Rattle.std.specs.List.{slice_get};
 ghost use Rattle.std.specs.Option.{option_copied};
 ghost use Rattle.archive_merge.specs.Facts.{HasNumbers, both_lists, has_domain, kept_of, listed_where, pairs_in};
@@ -116,4 +116,45 @@ pub(crate) fn listed(
         push_others(alloc, &mut made, pairs)?;
     }
     Ok(made)
+}
+
+/// Whether these are all instances that hold, where none hold without a list.
+fn are_held(held: Option<&DomainInstances>, pairs: &[(i32, Text)]) -> bool
+    ensures { IsTrue result → (pairs.now ≡ pairs_in (option_copied held.entry)) }
+{
+    match held {
+        Some(held) => held.are(pairs),
+        None => pairs.is_empty(),
+    }
+}
+
+fn are_beside(
+    first: &DomainInstances,
+    second: Option<&DomainInstances>,
+    pairs: &[(i32, Text)],
+) -> bool
+    ensures { IsTrue result → (pairs.now ≡ both_lists first.now (pairs_in (option_copied second.entry))) }
+{
+    if !first.are(pairs) {
+        return false;
+    }
+    match second {
+        Some(second) => second.are(pairs),
+        None => true,
+    }
+}
+
+/// Whether these are the instances that are listed of a domain, as far as that is seen without a copy: what both sources list is compared where both
+/// list the same.
+pub(crate) fn are_listed(
+    first: Option<&DomainInstances>,
+    second: Option<&DomainInstances>,
+    pairs: &[(i32, Text)],
+) -> bool
+    ensures { IsTrue result → (pairs.now ≡ both_lists (pairs_in (option_copied first.entry)) (pairs_in (option_copied second.entry))) }
+{
+    match first {
+        Some(first) => are_beside(first, second, pairs),
+        None => are_held(second, pairs),
+    }
 }

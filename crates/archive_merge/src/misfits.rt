@@ -1,7 +1,8 @@
 //! Why the sets of a stamp can't be described.
-ghost use Rattle.std.specs.Prelude.{◌≡◌, [], is_some};
+ghost use Rattle.std.specs.Prelude.{◌≡◌, ◌==◌, ◌||◌, [], is_some};
 ghost use Rattle.std.specs.List.{list_all};
 ghost use Rattle.std.specs.Option.{option_copied};
+ghost use Rattle.pcp_base.specs.Ids.{null_indom};
 ghost use Rattle.archive_merge.specs.Facts.{domains_used, first_clash, first_lacking, is_clashing, is_lacking, misfit_between, pairs_in};
 ghost use Rattle.archive_merge.specs.Naming.{name_in, names_all, pairs_at, renames};
 
@@ -39,6 +40,16 @@ fn are_named(meta: &MetaState, indom: InDom, t: Stamp, body: &Body) -> bool
     }
 }
 
+/// Whether each instance that a set of a metric of a domain shows has a name; the null domain needs none.
+pub(crate) fn is_named(meta: &MetaState, t: Stamp, indom: InDom, body: &Body) -> bool
+    ensures { result ≡ (indom == null_indom || names_all (pairs_at meta.now indom t) body.now) }
+{
+    if indom == InDom::null() {
+        return true;
+    }
+    are_named(meta, indom, t, body)
+}
+
 /// Whether a set with values lacks a description with a name, or one of its instances a name.
 fn is_lacking(meta: &MetaState, t: Stamp, set: &ValueSet) -> bool
     ensures { result ≡ is_lacking meta.now t set.now }
@@ -46,13 +57,10 @@ fn is_lacking(meta: &MetaState, t: Stamp, set: &ValueSet) -> bool
     if !has_values(set) {
         return false;
     }
-    let Some((desc, _)) = fact_about(meta, set.pmid) else {
-        return true;
-    };
-    if desc.indom == InDom::null() {
-        return false;
+    match fact_about(meta, set.pmid) {
+        Some((desc, _)) => !is_named(meta, t, desc.indom, &set.body),
+        None => true,
     }
-    !are_named(meta, desc.indom, t, &set.body)
 }
 
 /// The metric of the first such set.
@@ -109,7 +117,7 @@ fn is_clashing(
 }
 
 /// The metric of the first such set.
-fn first_clash(
+pub(crate) fn first_clash(
     first: &MetaState,
     second: &MetaState,
     t: Stamp,

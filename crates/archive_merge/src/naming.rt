@@ -1,9 +1,10 @@
 //! What a source says of a metric, and of instances.
 ghost use Rattle.std.specs.Prelude.{◌≡◌, is_some, None, Some, MatchOption, bytes_eq};
-ghost use Rattle.std.specs.List.{list_all, list_any};
+ghost use Rattle.std.specs.List.{list_all, list_any, slice_get};
 ghost use Rattle.std.specs.Option.{option_copied};
+ghost use Rattle.std.specs.Ordering.{int_eq};
 ghost use Rattle.archive_merge.specs.Facts.{pairs_in};
-ghost use Rattle.archive_merge.specs.Naming.{differ, fact_about, name_in, names_all, pairs_at, renames};
+ghost use Rattle.archive_merge.specs.Naming.{differ, fact_about, is_numbered, name_in, names_all, pairs_at, renames};
 
 use archive_meta::MetaState;
 use pcp_base::{Body, Desc, InDom, Pmid, Stamp, Text};
@@ -47,13 +48,31 @@ pub(crate) fn name_in(pairs: &DomainInstances, instance: i32) -> Option<&[u8]>
     None
 }
 
+fn is_same_number(a: i32, b: i32) -> bool
+    ensures { result ≡ int_eq a b }
+{
+    a == b
+}
+
+fn is_number_at(pairs: &DomainInstances, at: usize, instance: i32) -> bool
+    ensures { result ≡ is_numbered instance (slice_get pairs.now at) }
+{
+    match pairs.number(at) {
+        Some(number) => is_same_number(number, instance),
+        None => false,
+    }
+}
+
+/// Whether an instance has a name. Names aren't looked at.
 fn has_name(pairs: &DomainInstances, instance: i32) -> bool
     ensures { result ≡ is_some (name_in instance pairs.now) }
 {
-    match name_in(pairs, instance) {
-        Some(_) => true,
-        None => false,
+    for at in 0..pairs.len() {
+        if is_number_at(pairs, at, instance) {
+            return true;
+        }
     }
+    false
 }
 
 fn names_each<T>(pairs: &DomainInstances, shown: &[(i32, T)]) -> bool

@@ -13,7 +13,7 @@ ghost use Rattle.log_extract.specs.Logging.{AreLeft, AreQuiet, BlamesSources, Ha
 use crate::cursor::Cursor;
 use crate::fault::ExtractFault;
 use crate::taking::take_both;
-use archive_merge::{MergeFault, describe};
+use archive_merge::{KeptFacts, MergeFault};
 use archive_meta::MetaState;
 use logging_run::Run;
 use pcp_base::{PmResult, Stamp, ValueSet};
@@ -48,9 +48,10 @@ fn sets_fit(sets: &[ValueSet]) -> bool
     true
 }
 
-/// Logs the item of a stamp, held to be written with others, where it can be described.
+/// Logs the item of a stamp, held to be written with others, where it can be described. What describes it is kept for the next.
 fn log_item<D: Disk>(
     alloc: Global,
+    kept: &mut KeptFacts,
     first: &MetaState,
     second: &MetaState,
     answer: &PmResult,
@@ -65,7 +66,7 @@ fn log_item<D: Disk>(
     ensures kinds { IfErr result IsOfItem }
     ensures working { OnOk result (IsWorking run.new) }
 {
-    let facts = describe(
+    kept.describe(
         alloc,
         first,
         second,
@@ -79,7 +80,7 @@ fn log_item<D: Disk>(
     if !sets_fit(answer.sets.as_slice()) {
         return Err(ExtractFault::Merge(MergeFault::NoMemory));
     }
-    run.log_held(alloc, disk, answer, &facts)?;
+    run.log_held(alloc, disk, answer, kept.facts())?;
     Ok(())
 }
 
@@ -104,6 +105,7 @@ pub(crate) fn merge_all<A: Disk, B: Disk, D: Disk>(
     ensures quiet { OnOk result (AreQuiet A.Disk B.Disk first_disk.old first_disk.new second_disk.old second_disk.new) }
     ensures others_quiet { IfErr result (QuietBut A.Disk B.Disk first_disk.old first_disk.new second_disk.old second_disk.new) }
 {
+    let mut kept = KeptFacts::empty(alloc);
     for _ in 0..u64::MAX {
         let stamp = match earliest(first.stamp(), second.stamp()) {
             Some(stamp) => stamp,
@@ -113,6 +115,7 @@ pub(crate) fn merge_all<A: Disk, B: Disk, D: Disk>(
         let answer = PmResult { stamp, sets };
         log_item(
             alloc,
+            &mut kept,
             first.meta(),
             second.meta(),
             &answer,

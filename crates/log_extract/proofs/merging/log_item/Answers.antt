@@ -19,11 +19,11 @@ use Rattle.log_extract.proofs.merging.log_item.Goals as goal
 pub describe-requires : goal.describe-requires
 describe-requires g c = subst (λ (l : List ValueSet). c.args.count ≤ length l) (sym c.as_slice.ensures) c.requires.parted.within
 
-pub returns-in_err-facts-clause-logs : goal.returns-in_err-facts-clause-logs
-returns-in_err-facts-clause-logs g c = λ limit reports start logged.
+pub returns-in_err-describe-clause-logs : goal.returns-in_err-describe-clause-logs
+returns-in_err-describe-clause-logs g c = λ limit reports start logged.
     let a = c.args.answer.now in
-    let e = c.in_err-facts.field-0.0 in
-    let fault = subst (λ (l : List ValueSet). (e ≡ NoMemory) ⊎ (misfit_between c.args.first.now c.args.second.now a.stamp (take c.args.count l) (drop c.args.count l) ≡ Some e)) c.as_slice.ensures c.in_err-facts.ensures.fault in
+    let e = c.in_err-describe.field-0.0 in
+    let fault = subst (λ (l : List ValueSet). (e ≡ NoMemory) ⊎ (misfit_between c.args.first.now c.args.second.now a.stamp (take c.args.count l) (drop c.args.count l) ≡ Some e)) c.as_slice.ensures c.in_err-describe.ensures.fault in
     let why : LogsNext g.D.Disk limit c.args.run.now start c.args.disk.now reports (judge_parts c.args.first.now c.args.second.now a.stamp a.sets c.args.count) (Err (Merge e)) =
     (misfit_so c.args.first.now c.args.second.now a c.args.count e fault, logged) in
     search (rules, why)
@@ -37,29 +37,31 @@ returns-then-not-sets_fit-clause-logs g c = λ limit reports start logged. (inl 
 pub returns-in_err-log_held-clause-logs : goal.returns-in_err-log_held-clause-logs
 returns-in_err-log_held-clause-logs g c = λ limit reports start logged.
     let a = c.args.answer.now in
-    let f : Facts = c.in_ok-facts.facts in
+    let f : Facts = c.facts.result.now in
     let first = c.args.first.now in
     let second = c.args.second.now in
-    let told = subst (λ (l : List ValueSet). (misfit_between first second a.stamp (take c.args.count l) (drop c.args.count l) ≡ None) × (f ≡ facts_between first second a.stamp (take c.args.count l) (drop c.args.count l))) c.as_slice.ensures c.in_ok-facts.ensures.facts in
+    let told = subst (λ (l : List ValueSet). (misfit_between first second a.stamp (take c.args.count l) (drop c.args.count l) ≡ None) × (c.describe.new.self ≡ facts_between first second a.stamp (take c.args.count l) (drop c.args.count l))) c.as_slice.ensures c.in_ok-describe.ensures.facts in
+    let is : f ≡ facts_between first second a.stamp (take c.args.count a.sets) (drop c.args.count a.sets) = c.facts.ensures ∙ told.1 in
     let r : Report = record { result = a; facts = f } in
-    let enough : AreEnough f a.sets = told_enough first second a c.args.count f c.requires.parted told.0 told.1 in
+    let enough : AreEnough f a.sets = told_enough first second a c.args.count f c.requires.parted told.0 is in
     let why : LogsNext g.D.Disk limit c.log_held.new.self start c.log_held.new.disk reports (judge_parts first second a.stamp a.sets c.args.count) (Err (Archive c.in_err-log_held.field-0.0)) =
-    (r, fits_so first second a c.args.count f told.0 told.1, c.in_err-log_held.ensures.stops enough limit (each_held reports) start logged) in
+    (r, fits_so first second a c.args.count f told.0 is, c.in_err-log_held.ensures.stops enough limit (each_held reports) start logged) in
     search (rules, why)
 
 pub returns-clause-logs : goal.returns-clause-logs
 returns-clause-logs g c = λ limit reports start logged.
     let a = c.args.answer.now in
-    let f : Facts = c.in_ok-facts.facts in
+    let f : Facts = c.facts.result.now in
     let first = c.args.first.now in
     let second = c.args.second.now in
-    let told = subst (λ (l : List ValueSet). (misfit_between first second a.stamp (take c.args.count l) (drop c.args.count l) ≡ None) × (f ≡ facts_between first second a.stamp (take c.args.count l) (drop c.args.count l))) c.as_slice.ensures c.in_ok-facts.ensures.facts in
+    let told = subst (λ (l : List ValueSet). (misfit_between first second a.stamp (take c.args.count l) (drop c.args.count l) ≡ None) × (c.describe.new.self ≡ facts_between first second a.stamp (take c.args.count l) (drop c.args.count l))) c.as_slice.ensures c.in_ok-describe.ensures.facts in
+    let is : f ≡ facts_between first second a.stamp (take c.args.count a.sets) (drop c.args.count a.sets) = c.facts.ensures ∙ told.1 in
     let r : Report = record { result = a; facts = f } in
-    let enough : AreEnough f a.sets = told_enough first second a c.args.count f c.requires.parted told.0 told.1 in
-    (r, fits_so first second a c.args.count f told.0 told.1, logged_next g.D.Disk limit c.log_held.new.self start c.log_held.new.disk reports r (c.in_ok-log_held.ensures.done enough limit (each_held reports) start logged))
+    let enough : AreEnough f a.sets = told_enough first second a c.args.count f c.requires.parted told.0 is in
+    (r, fits_so first second a c.args.count f told.0 is, logged_next g.D.Disk limit c.log_held.new.self start c.log_held.new.disk reports r (c.in_ok-log_held.ensures.done enough limit (each_held reports) start logged))
 
-pub returns-in_err-facts-clause-kinds : goal.returns-in_err-facts-clause-kinds
-returns-in_err-facts-clause-kinds g c = let why : IsOfItem (Merge c.in_err-facts.field-0.0) = tt in search (rules, why)
+pub returns-in_err-describe-clause-kinds : goal.returns-in_err-describe-clause-kinds
+returns-in_err-describe-clause-kinds g c = let why : IsOfItem (Merge c.in_err-describe.field-0.0) = tt in search (rules, why)
 
 pub returns-in_err-log_held-clause-kinds : goal.returns-in_err-log_held-clause-kinds
 returns-in_err-log_held-clause-kinds g c = let why : IsOfItem (Archive c.in_err-log_held.field-0.0) = tt in search (rules, why)
