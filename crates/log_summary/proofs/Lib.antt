@@ -9,6 +9,7 @@ pub mod Once
 pub mod Placing
 pub mod Printing
 pub mod Rounds
+pub mod Rowed
 pub mod Tabled
 pub mod Telling
 pub mod Walked

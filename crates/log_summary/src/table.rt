@@ -1,8 +1,10 @@
 //! Counts by metric and instance.
-ghost use Rattle.std.specs.Prelude.{◌≡◌, [], ◌∷◌, fold, OnOk};
+ghost use Rattle.std.specs.Prelude.{◌≡◌, ◌<◌, [], ◌∷◌, fold, length, true, Some, slice_get, OnOk};
 ghost use Rattle.std.specs.Option.{option_copied};
 ghost use Rattle.archive_meta.specs.Said.{description_of, desc_of};
-ghost use Rattle.log_summary.specs.Tables.{joined_to, put, merged, counted};
+ghost use Rattle.log_summary.specs.declared.tally.Tally.{Tally as Told};
+ghost use Rattle.log_summary.specs.Tables.{Key, joined_to, put, merged, counted};
+ghost use Rattle.log_summary.specs.Tallies.{single};
 ghost use Rattle.log_summary.specs.Values.{with_value, word_values, block_values, body_values, code_in, set_values, sets_values, item_values};
 
 use crate::numbers::{block_number, word_number};
@@ -13,11 +15,14 @@ use pcp_base::{Block, Body, Item, NoMemory, Pmid, Stamp, ValueSet};
 use std::alloc::Global;
 use std::marker::Model;
 
-/// What was counted, by a metric's word and an instance's number, in the order in which they were first counted. Each look-up
-/// is by a hash, so a value's count takes no longer in a table of many.
+/// What was counted, by a metric's word and an instance's number, in the order in which they were first counted. The values of
+/// a sample mostly come in the order of those of the sample before, so each is looked for first in the row behind the one
+/// counted last, and only where it isn't there by a hash.
 #[derive(Drop)]
 pub struct Table {
     pub(crate) tallies: IndexMap<(u32, i32), Tally>,
+    // The row behind the one counted last.
+    next: usize,
 }
 
 impl Model for Table {
@@ -55,6 +60,7 @@ impl Table {
     {
         Table {
             tallies: IndexMap::new(alloc),
+            next: 0,
         }
     }
 
@@ -63,8 +69,51 @@ impl Table {
         ensures { OnOk result (self.new ≡ put self.old (key, tally)) }
     {
         let tally = joined_to(self.tallies.get(&key), tally);
-        self.tallies.insert(key, tally)?;
+        let (row, _) = self.tallies.insert_full(key, tally)?;
+        self.next = row.wrapping_add(1);
         Ok(())
+    }
+
+    // The row where a value is looked for first: the one behind the last counted, and behind the last row the first.
+    fn expected(&self) -> usize {
+        if self.next < self.tallies.len() {
+            self.next
+        } else {
+            0
+        }
+    }
+
+    // Whether a row is of this metric's instance.
+    fn is_at(&self, row: usize, key: (u32, i32)) -> bool
+        ensures { result ≡ true → (row < length self.now) × (tally : Told) × (slice_get self.now row ≡ Some (key, tally)) }
+    {
+        match self.tallies.get_index(row) {
+            Some((found, _)) => *found == key,
+            None => false,
+        }
+    }
+
+    // Puts what was counted of the instance whose row this is behind what the row has.
+    fn join_at(&mut self, row: usize, tally: &Tally)
+        requires { row < length self.old }
+        ensures { (key : Key) (before : Told) → slice_get self.old row ≡ Some (key, before) → self.new ≡ put self.old (key, tally.now) }
+    {
+        let (_, before) = self.tallies.pair_mut(row);
+        *before = before.joined(tally);
+        self.next = row.wrapping_add(1);
+    }
+
+    // Counts a number of an instance.
+    fn count_one(&mut self, key: (u32, i32), number: i128, stamp: Stamp) -> Result<(), NoMemory>
+        ensures { OnOk result (self.new ≡ put self.old (key, single number stamp)) }
+    {
+        let row = self.expected();
+        let tally = Tally::single(number, stamp);
+        if self.is_at(row, key) {
+            self.join_at(row, &tally);
+            return Ok(());
+        }
+        self.put(key, tally)
     }
 
     fn count_number(
@@ -77,7 +126,7 @@ impl Table {
         ensures { OnOk result (self.new ≡ fold counted self.old (with_value pmid stamp instance number [])) }
     {
         match number {
-            Some(number) => self.put((pmid.word(), instance), Tally::single(number, stamp)),
+            Some(number) => self.count_one((pmid.word(), instance), number, stamp),
             None => Ok(()),
         }
     }
@@ -155,7 +204,7 @@ impl Table {
     pub fn merge(&mut self, other: Table) -> Result<(), NoMemory>
         ensures { OnOk result (self.new ≡ merged self.old other) }
     {
-        let Table { tallies } = other;
+        let Table { tallies, next: _ } = other;
         for (key, tally) in tallies {
             self.put(key, tally)?;
         }
