@@ -6,6 +6,7 @@ pub mod Listing
 pub mod Merging
 pub mod Naming
 pub mod Once
+pub mod Pieced
 pub mod Placing
 pub mod Printing
 pub mod Rounds

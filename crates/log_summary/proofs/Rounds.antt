@@ -1,5 +1,5 @@
 -- Jobs, what they come to, and the volumes so far.
-use Rattle.std.proofs.Common.{zero, suc, ◌≡◌, ◌⊎◌, inl, inr, ℕ, ◌+◌, ◌<◌, ◌≤◌, Bool, true, false, nat_eq, List, [], ◌∷◌, ◌++◌, length, drop, Result, Ok, Err, refl, sym, ap, ◌∙◌, subst, arith}
+use Rattle.std.proofs.Common.{zero, suc, ◌≡◌, ◌⊎◌, inl, inr, ℕ, ◌+◌, ◌<◌, ◌≤◌, Bool, true, false, nat_eq, List, [], ◌∷◌, ◌++◌, length, drop, refl, sym, ap, ◌∙◌, subst, take, arith}
 use Rattle.std.specs.Prelude.{slice_index_or}
 use Rattle.std.proofs.lemmas.Bool.{eqb-true, eqb-false}
 use Rattle.std.proofs.lemmas.List.{length-drop}
@@ -14,29 +14,94 @@ use Rattle.pcp_model.specs.Disk.{Files}
 use Rattle.archive_reader.specs.Values.{IsWholeFault}
 use Rattle.archive_reader.specs.Walks.{StopsAt}
 use Rattle.archive_reader.specs.declared.fault.ReaderFault.{ReaderFault}
-use Rattle.archive_reader.specs.declared.fault.ReaderFault.TheVariants.{Compressed, NotArchive, DiskFault, NoMemory}
-use Rattle.log_summary.specs.declared.jobs.Job.{Job}
-use Rattle.log_summary.specs.Jobs.{is_empty, IsJob, AreJobs, IsCount, AreCounts, MergesAll, StopsWith}
+use Rattle.archive_reader.specs.declared.fault.ReaderFault.TheVariants.{NotArchive, DiskFault, NoMemory}
+use Rattle.log_summary.specs.declared.job.Job.{Job}
+use Rattle.log_summary.specs.declared.job.Progress.{Progress}
+use Rattle.log_summary.specs.declared.job.Progress.TheVariants.{Done, Broken}
+use Rattle.log_summary.specs.Jobs.{is_empty, Counts, IsAsFar, IsRead, IsReadOn, IsReadOf, IsNewJob, IsSame, IsCountedOn, IsJob, AreJobs, AreRead, AreReadOn, AreCountedOn, IsStop, MergesAll, StopsWith}
 use Rattle.log_summary.specs.Summaries.{GoOn, IsSoFar, IsTableOf}
 use Rattle.log_summary.specs.Tables.{Rows, merged, table_of}
 use Rattle.log_summary.specs.Values.{values_of}
-use Rattle.log_summary.specs.Volumes.{table_between, IsCounted, IsBroken, IsVolumeFault}
+use Rattle.log_summary.specs.Volumes.{table_between, IsCounted, IsBroken}
 use Rattle.archive_reader.specs.Searches.{between}
 use Rattle.log_summary.proofs.Placing.{goes_past, stops_in, all_past}
 use Rattle.log_summary.proofs.Tabled.{tables_merge}
 use Rattle.log_summary.proofs.Walked.{both_between}
 
--- a job more
-pub one_job : (files : Files) (n : ℕ) (vs : List (ℕ × ℕ)) (js : List Job) (left : List (ℕ × ℕ)) (w : ℕ × ℕ) (rest : List (ℕ × ℕ)) (j : Job)
-    → AreJobs files n vs js left → left ≡ w ∷ rest → IsJob files (n + length js) w rest j → AreJobs files n vs (js ++ j ∷ []) rest
-one_job files n [] [] left w rest j is next job = absurd cc
-one_job files n (v ∷ vs) [] left w rest j is next job =
-    let first : w ≡ v = cc in
-    let others : rest ≡ vs = cc in
-    (subst (λ l. IsJob files n v l j) others (subst (λ u. IsJob files n u rest j) first (subst (λ k. IsJob files k w rest j) (omega arith) job)), others)
-one_job files n [] (k ∷ js) left w rest j are next job = absurd are
-one_job files n (v ∷ vs) (k ∷ js) left w rest j are next job =
-    (are.0, one_job files (n + 1) vs js left w rest j are.1 next (subst (λ m. IsJob files m w rest j) (omega arith) job))
+module _ (files : Files) (records : List MetaRecord) (from to : Moment) where
+  -- a job more
+  pub one_job : (n : ℕ) (vs : List (ℕ × ℕ)) (js : List Job) (left : List (ℕ × ℕ)) (w : ℕ × ℕ) (rest : List (ℕ × ℕ)) (j : Job)
+      → AreJobs files records from to n vs js left → left ≡ w ∷ rest → IsJob files records from to (n + length js) w rest j → AreJobs files records from to n vs (js ++ j ∷ []) rest
+  one_job n [] [] left w rest j is next job = absurd cc
+  one_job n (v ∷ vs) [] left w rest j is next job =
+      let first : w ≡ v = cc in
+      let others : rest ≡ vs = cc in
+      (subst (λ l. IsJob files records from to n v l j) others (subst (λ u. IsJob files records from to n u rest j) first (subst (λ k. IsJob files records from to k w rest j) (omega arith) job)), others)
+  one_job n [] (k ∷ js) left w rest j are next job = absurd are
+  one_job n (v ∷ vs) (k ∷ js) left w rest j are next job =
+      (are.0, one_job (n + 1) vs js left w rest j are.1 next (subst (λ m. IsJob files records from to m w rest j) (omega arith) job))
+
+  -- a job of which nothing is read or counted
+  pub new_counts : (worker : ℕ) (v : ℕ × ℕ) (is_last : Bool) (j : Job) → v.1 ≡ length (files (Volume v.0)) → IsNewJob worker v is_last j → Counts (files (Volume v.0)) records from to j
+  new_counts worker v is_last j long (none, is) = record {
+    read = record {
+      long = ap (λ (k : Job). k.end) is ∙ long;
+      is = none ∙ sym (ap (λ (l : List ℕ). take (length l) (drop j.at (files (Volume v.0)))) none);
+    };
+    far = subst (λ (k : Job). IsAsFar (files (Volume v.0)) records from to k k.progress) (sym is) (record { items = []; stand = refl; is = refl });
+  }
+
+  pub new_job_is : (worker : ℕ) (v : ℕ × ℕ) (behind : List (ℕ × ℕ)) (is_last : Bool) (j : Job) → v.1 ≡ length (files (Volume v.0)) → is_last ≡ is_empty behind → IsNewJob worker v is_last j → IsJob files records from to worker v behind j
+  new_job_is worker v behind is_last j long last new = record {
+    worker_is = ap (λ (k : Job). k.worker) new.1;
+    number = ap (λ (k : Job). k.number) new.1;
+    long = long;
+    last = ap (λ (k : Job). k.is_last) new.1 ∙ last;
+    counts = new_counts worker v is_last j long new;
+  }
+
+  -- what was read of jobs stands in the files
+  pub jobs_read : (n : ℕ) (vs : List (ℕ × ℕ)) (js : List Job) (rest : List (ℕ × ℕ)) → AreJobs files records from to n vs js rest → AreRead files js
+  jobs_read n vs [] rest are = tt
+  jobs_read n [] (j ∷ js) rest are = absurd are
+  jobs_read n (v ∷ vs) (j ∷ js) rest are = (subst (λ m. IsRead (files (Volume m)) j) (sym are.0.number) are.0.counts.read, jobs_read (n + 1) vs js rest are.1)
+
+  -- more is read of each
+  read_on : (worker : ℕ) (v : ℕ × ℕ) (behind : List (ℕ × ℕ)) (j k : Job) → IsReadOn j k → IsReadOf files k → IsJob files records from to worker v behind j → IsJob files records from to worker v behind k
+  read_on worker v behind j k on read job = record {
+    worker_is = ap (λ (i : Job). i.worker) on ∙ job.worker_is;
+    number = ap (λ (i : Job). i.number) on ∙ job.number;
+    long = job.long;
+    last = ap (λ (i : Job). i.is_last) on ∙ job.last;
+    counts = record {
+      read = subst (λ m. IsRead (files (Volume m)) k) (ap (λ (i : Job). i.number) on ∙ job.number) read;
+      far = subst (λ (i : Job). IsAsFar (files (Volume v.0)) records from to i i.progress) (sym on) job.counts.far;
+    };
+  }
+
+  pub jobs_read_on : (n : ℕ) (vs : List (ℕ × ℕ)) (js ks : List Job) (rest : List (ℕ × ℕ)) → AreReadOn files js ks → AreJobs files records from to n vs js rest → AreJobs files records from to n vs ks rest
+  jobs_read_on n vs [] [] rest on are = are
+  jobs_read_on n vs [] (k ∷ ks) rest on are = absurd (on tt)
+  jobs_read_on n vs (j ∷ js) [] rest on are = absurd (on tt)
+  jobs_read_on n [] (j ∷ js) (k ∷ ks) rest on are = absurd are
+  jobs_read_on n (v ∷ vs) (j ∷ js) (k ∷ ks) rest on are = (read_on n v vs j k on.0.0 on.0.1 are.0, jobs_read_on (n + 1) vs js ks rest on.1 are.1)
+
+  -- more is counted of each
+  counted_on : (worker : ℕ) (v : ℕ × ℕ) (behind : List (ℕ × ℕ)) (j k : Job) → IsCountedOn records from to j k → IsJob files records from to worker v behind j → IsJob files records from to worker v behind k
+  counted_on worker v behind j k on job = record {
+    worker_is = on.same.worker_is ∙ job.worker_is;
+    number = on.same.number ∙ job.number;
+    long = job.long;
+    last = on.same.last ∙ job.last;
+    counts = on.counts (files (Volume v.0)) job.counts;
+  }
+
+  pub jobs_counted_on : (n : ℕ) (vs : List (ℕ × ℕ)) (js ks : List Job) (rest : List (ℕ × ℕ)) → AreCountedOn records from to js ks → AreJobs files records from to n vs js rest → AreJobs files records from to n vs ks rest
+  jobs_counted_on n vs [] [] rest on are = are
+  jobs_counted_on n vs [] (k ∷ ks) rest on are = absurd (on tt)
+  jobs_counted_on n vs (j ∷ js) [] rest on are = absurd (on tt)
+  jobs_counted_on n [] (j ∷ js) (k ∷ ks) rest on are = absurd are
+  jobs_counted_on n (v ∷ vs) (j ∷ js) (k ∷ ks) rest on are = (counted_on n v vs j k on.0 are.0, jobs_counted_on (n + 1) vs js ks rest on.1 are.1)
 
 pub none_behind : (vs : List (ℕ × ℕ)) (at : ℕ) → at ≤ length vs → nat_eq at (length vs) ≡ is_empty (drop at vs)
 none_behind vs at le = by (nat_eq at (length vs)) refl (drop at vs) refl
@@ -54,24 +119,22 @@ measured_at files (v ∷ vs) zero all lt = all.0
 measured_at files (v ∷ vs) (suc i) all lt = measured_at files vs i all.1 (omega (arith, lt))
 
 -- what holds of each two by their place holds one after another
-pub by_place : (records : List MetaRecord) (from to : Moment) (js : List Job) (rs : List (Result Rows ReaderFault)) → length rs ≡ length js
-    → ((i : ℕ) (d : Result Rows ReaderFault) → i < length js → (j : Job) × ((e : Job) → slice_index_or js i e ≡ j) × IsCount records from to j (slice_index_or rs i d)) → AreCounts records from to js rs
+pub by_place : (records : List MetaRecord) (from to : Moment) (js ks : List Job) → length ks ≡ length js
+    → ((i : ℕ) (d : Job) → i < length js → (j : Job) × ((e : Job) → slice_index_or js i e ≡ j) × IsCountedOn records from to j (slice_index_or ks i d)) → AreCountedOn records from to js ks
 by_place records from to [] [] long each = tt
-by_place records from to [] (r ∷ rs) long each = absurd (omega (arith, long))
+by_place records from to [] (k ∷ ks) long each = absurd (omega (arith, long))
 by_place records from to (j ∷ js) [] long each = absurd (omega (arith, long))
-by_place records from to (j ∷ js) (r ∷ rs) long each =
-    let first = each 0 r (omega arith) in (
-      subst (λ k. IsCount records from to k r) (sym (first.1 j)) first.2,
-      by_place records from to js rs (omega (arith, long)) (λ i d lt. each (suc i) d (omega (arith, lt))),
+by_place records from to (j ∷ js) (k ∷ ks) long each =
+    let first = each 0 k (omega arith) in (
+      subst (λ i. IsCountedOn records from to i k) (sym (first.1 j)) first.2,
+      by_place records from to js ks (omega (arith, long)) (λ i d lt. each (suc i) d (omega (arith, lt))),
     )
 
--- workers don't touch the disk
-pub no_disk_fault : (records : List MetaRecord) (from to : Moment) (js : List Job) (rs : List (Result Rows ReaderFault)) (e : ReaderFault) → AreCounts records from to js rs → StopsWith rs e → e ≡ DiskFault → ⊥
-no_disk_fault records from to [] [] e are stops is = stops
-no_disk_fault records from to [] (r ∷ rs) e are stops is = are tt
-no_disk_fault records from to (j ∷ js) [] e are stops is = are tt
-no_disk_fault records from to (j ∷ js) (Ok a ∷ rs) e are stops is = no_disk_fault records from to js rs e are.1 stops is
-no_disk_fault records from to (j ∷ js) (Err f ∷ rs) e are stops is = subst (IsVolumeFault j.number j.bytes j.is_last) (sym stops ∙ is) are.0
+-- no fault of a job is the disk's
+pub no_disk_fault : (js : List Job) (e : ReaderFault) → StopsWith js e → e ≡ DiskFault → ⊥
+no_disk_fault [] e stops is = stops
+no_disk_fault (j ∷ js) e (inl (at, broken, fault)) is = absurd cc
+no_disk_fault (j ∷ js) e (inr (done, stops)) is = no_disk_fault js e stops is
 
 module _ (files : Files) (volumes : List (ℕ × ℕ)) (records : List MetaRecord) (from to : Moment) where
   -- one volume's table behind those so far
@@ -81,49 +144,38 @@ module _ (files : Files) (volumes : List (ℕ × ℕ)) (records : List MetaRecor
       ∙ sym (tables_merge (values_of records (between from to items)) (values_of records (between from to others)))
       ∙ ap table_of (sym (both_between records from to items others))
 
-  counted_in : (n : ℕ) (v : ℕ × ℕ) (behind : List (ℕ × ℕ)) (j : Job) (table : Rows) → IsJob files n v behind j → IsCounted j.bytes j.is_last records from to table → IsCounted (files (Volume v.0)) (is_empty behind) records from to table
-  counted_in n v behind j table job c = subst (λ b. IsCounted (files (Volume v.0)) b records from to table) job.last (subst (λ l. IsCounted l j.is_last records from to table) job.bytes c)
+  far_by : (n : ℕ) (v : ℕ × ℕ) (behind : List (ℕ × ℕ)) (j : Job) (p : Progress) → IsJob files records from to n v behind j → j.progress ≡ p → IsAsFar (files (Volume v.0)) records from to j p
+  far_by n v behind j p job is = subst (IsAsFar (files (Volume v.0)) records from to j) is job.counts.far
 
-  broken_in : (n : ℕ) (v : ℕ × ℕ) (behind : List (ℕ × ℕ)) (j : Job) (at : ℕ) → IsJob files n v behind j → IsBroken j.bytes j.is_last at → IsBroken (files (Volume v.0)) (is_empty behind) at
-  broken_in n v behind j at job b = subst (λ c. IsBroken (files (Volume v.0)) c at) job.last (subst (λ l. IsBroken l j.is_last at) job.bytes b)
-
-  one_more : (n : ℕ) (v : ℕ × ℕ) (vs : List (ℕ × ℕ)) (j : Job) (rows table : Rows) → IsJob files n v vs j → IsCounted j.bytes j.is_last records from to table → IsSoFar files volumes records from to (v ∷ vs) rows → IsSoFar files volumes records from to vs (merged rows table)
-  one_more n v vs j rows table job c s =
-      let d : IsCounted (files (Volume v.0)) (is_empty vs) records from to table = counted_in n v vs j table job c in
+  one_more : (n : ℕ) (v : ℕ × ℕ) (vs : List (ℕ × ℕ)) (j : Job) (rows : Rows) → IsJob files records from to n v vs j → j.progress ≡ Done → IsSoFar files volumes records from to (v ∷ vs) rows → IsSoFar files volumes records from to vs (merged rows j.table)
+  one_more n v vs j rows job done s =
+      let d : IsCounted (files (Volume v.0)) (is_empty vs) records from to j.table = subst (λ b. IsCounted (files (Volume v.0)) b records from to j.table) job.last (far_by n v vs j Done job done) in
       record {
         items = s.items ++ d.items;
         goes = goes_past files volumes v vs s.items d.items d.end job.long d.stand d.ends s.goes;
-        is = merged_more s.items d.items rows table s.is d.is;
+        is = merged_more s.items d.items rows j.table s.is d.is;
       }
 
-  pub all_merged : (n : ℕ) (vs : List (ℕ × ℕ)) (js : List Job) (rest : List (ℕ × ℕ)) (rs : List (Result Rows ReaderFault)) (rows others : Rows) → AreJobs files n vs js rest → AreCounts records from to js rs → MergesAll rows rs others
+  pub all_merged : (n : ℕ) (vs : List (ℕ × ℕ)) (js : List Job) (rest : List (ℕ × ℕ)) (rows others : Rows) → AreJobs files records from to n vs js rest → MergesAll rows js others
       → IsSoFar files volumes records from to vs rows → IsSoFar files volumes records from to rest others
-  all_merged n vs [] rest [] rows others are counts merges s = subst (λ l. IsSoFar files volumes records from to l others) (sym are) (subst (IsSoFar files volumes records from to vs) (sym merges) s)
-  all_merged n vs [] rest (r ∷ rs) rows others are counts merges s = absurd (counts tt)
-  all_merged n vs (j ∷ js) rest [] rows others are counts merges s = absurd (counts tt)
-  all_merged n [] (j ∷ js) rest (r ∷ rs) rows others are counts merges s = absurd are
-  all_merged n (v ∷ vs) (j ∷ js) rest (Err e ∷ rs) rows others are counts merges s = absurd merges
-  all_merged n (v ∷ vs) (j ∷ js) rest (Ok table ∷ rs) rows others are counts merges s =
-      all_merged (n + 1) vs js rest rs (merged rows table) others are.1 counts.1 merges (one_more n v vs j rows table are.0 counts.0 s)
+  all_merged n vs [] rest rows others are merges s = subst (λ l. IsSoFar files volumes records from to l others) (sym are) (subst (IsSoFar files volumes records from to vs) (sym merges) s)
+  all_merged n [] (j ∷ js) rest rows others are merges s = absurd are
+  all_merged n (v ∷ vs) (j ∷ js) rest rows others are merges s =
+      all_merged (n + 1) vs js rest (merged rows j.table) others are.1 merges.1 (one_more n v vs j rows are.0 merges.0 s)
 
-  volume_fault : (n : ℕ) (v : ℕ × ℕ) (vs : List (ℕ × ℕ)) (j : Job) (e : ReaderFault) → IsJob files n v vs j → IsVolumeFault j.number j.bytes j.is_last e → (items : List Item) → GoOn files volumes (v ∷ vs) items → IsWholeFault files volumes e
-  volume_fault n v vs j (Compressed file) job f items g = f
-  volume_fault n v vs j (NotArchive file at) job (is, broken) items g =
-      let b : IsBroken (files (Volume v.0)) (is_empty vs) at = broken_in n v vs j at job broken in
-      let named : Volume v.0 ≡ file = ap Volume (sym job.number) ∙ sym is in
-      (items ++ b.items, g.stop b.items file at (subst (λ (f : FileId). StopsAt files (v ∷ vs) 132 b.items f at) named (stops_in files v vs b.items at job.long b.stand b.breaks)))
-  volume_fault n v vs j DiskFault job f items g = tt
-  volume_fault n v vs j NoMemory job f items g = tt
+  stopped_in : (n : ℕ) (v : ℕ × ℕ) (vs : List (ℕ × ℕ)) (j : Job) (at : ℕ) → IsJob files records from to n v vs j → j.progress ≡ Broken at → (items : List Item) → GoOn files volumes (v ∷ vs) items → IsWholeFault files volumes (NotArchive (Volume j.number) at)
+  stopped_in n v vs j at job is items g =
+      let b : IsBroken (files (Volume v.0)) (is_empty vs) at = subst (λ c. IsBroken (files (Volume v.0)) c at) job.last (far_by n v vs j (Broken at) job is) in
+      let named : Volume v.0 ≡ Volume j.number = ap Volume (sym job.number) in
+      (items ++ b.items, g.stop b.items (Volume j.number) at (subst (λ (f : FileId). StopsAt files (v ∷ vs) 132 b.items f at) named (stops_in files v vs b.items at job.long b.stand b.breaks)))
 
-  pub all_stopped : (n : ℕ) (vs : List (ℕ × ℕ)) (js : List Job) (rest : List (ℕ × ℕ)) (rs : List (Result Rows ReaderFault)) (rows : Rows) (e : ReaderFault) → AreJobs files n vs js rest → AreCounts records from to js rs → StopsWith rs e
+  pub all_stopped : (n : ℕ) (vs : List (ℕ × ℕ)) (js : List Job) (rest : List (ℕ × ℕ)) (rows : Rows) (e : ReaderFault) → AreJobs files records from to n vs js rest → StopsWith js e
       → IsSoFar files volumes records from to vs rows → IsWholeFault files volumes e
-  all_stopped n vs [] rest [] rows e are counts stops s = absurd stops
-  all_stopped n vs [] rest (r ∷ rs) rows e are counts stops s = absurd (counts tt)
-  all_stopped n vs (j ∷ js) rest [] rows e are counts stops s = absurd (counts tt)
-  all_stopped n [] (j ∷ js) rest (r ∷ rs) rows e are counts stops s = absurd are
-  all_stopped n (v ∷ vs) (j ∷ js) rest (Ok table ∷ rs) rows e are counts stops s = all_stopped (n + 1) vs js rest rs (merged rows table) e are.1 counts.1 stops (one_more n v vs j rows table are.0 counts.0 s)
-  all_stopped n (v ∷ vs) (j ∷ js) rest (Err f ∷ rs) rows e are counts stops s =
-      subst (IsWholeFault files volumes) (sym stops) (volume_fault n v vs j f are.0 counts.0 s.items s.goes)
+  all_stopped n vs [] rest rows e are stops s = absurd stops
+  all_stopped n [] (j ∷ js) rest rows e are stops s = absurd are
+  all_stopped n (v ∷ vs) (j ∷ js) rest rows e are (inl (at, broken, fault)) s =
+      subst (IsWholeFault files volumes) (sym fault) (stopped_in n v vs j at are.0 broken s.items s.goes)
+  all_stopped n (v ∷ vs) (j ∷ js) rest rows e are (inr (done, stops)) s = all_stopped (n + 1) vs js rest (merged rows j.table) e are.1 stops (one_more n v vs j rows are.0 done s)
 
   pub summed_all : (vs : List (ℕ × ℕ)) (rows : Rows) → vs ≡ [] → IsSoFar files volumes records from to vs rows → IsTableOf files volumes records from to rows
   summed_all vs rows none s = record { items = s.items; all = all_past files volumes s.items (subst (λ l. GoOn files volumes l s.items) none s.goes); is = s.is }

@@ -16,7 +16,8 @@ use Rattle.archive_loading.specs.Standing.{ItemStands, NoItemStands}
 use Rattle.archive_reader.specs.Searches.{between, is_before, is_after}
 use Rattle.log_summary.specs.Tables.{Rows, counted}
 use Rattle.log_summary.specs.Values.{Value, item_values, values_of}
-use Rattle.log_summary.specs.Volumes.{is_torn, table_between, StandUpTo, IsCounted, IsBroken}
+use Rattle.log_summary.specs.Pieces.{IsWalked}
+use Rattle.log_summary.specs.Volumes.{is_torn, StandUpTo, SoFar, IsCounted, IsBroken}
 
 -- ---- one step
 
@@ -56,7 +57,7 @@ item_fits bytes at next x s = let e : Ends bytes s.payload at next = stood bytes
 
 -- ---- items so far
 
-pub one_stands : (bytes : List ℕ) (at : ℕ) (items : List Item) (end next : ℕ) (x : Item) → StandUpTo bytes at items end → ItemStands bytes end next x → StandUpTo bytes at (items ++ x ∷ []) next
+one_stands : (bytes : List ℕ) (at : ℕ) (items : List Item) (end next : ℕ) (x : Item) → StandUpTo bytes at items end → ItemStands bytes end next x → StandUpTo bytes at (items ++ x ∷ []) next
 one_stands bytes at [] end next x is s = (next, subst (λ n. ItemStands bytes n next x) is s, refl)
 one_stands bytes at (y ∷ items) end next x (mid, first, rest) s = (mid, first, one_stands bytes mid items end next x rest s)
 
@@ -77,13 +78,6 @@ pub both_between : (records : List MetaRecord) (from to : Moment) (xs ys : List 
     → values_of records (between from to (xs ++ ys)) ≡ values_of records (between from to xs) ++ values_of records (between from to ys)
 both_between records from to xs ys = ap (values_of records) (between-append from to xs ys) ∙ values-append records (between from to xs) (between from to ys)
 
-pub more_between : (records : List MetaRecord) (from to : Moment) (items : List Item) (x : Item) (old new : Rows) → old ≡ table_between records from to items
-    → new ≡ fold counted old (values_of records (between from to (x ∷ []))) → new ≡ table_between records from to (items ++ x ∷ [])
-more_between records from to items x old new was is =
-    is ∙ ap (λ (rows : Rows). fold counted rows (values_of records (between from to (x ∷ [])))) was
-    ∙ sym (fold-append counted [] (values_of records (between from to items)) (values_of records (between from to (x ∷ []))))
-    ∙ ap (fold counted []) (sym (both_between records from to items (x ∷ [])))
-
 -- an item that isn't between the moments has no values there
 pub before_all : (records : List MetaRecord) (from to : Moment) (x : Item) → is_before from x ≡ true → values_of records (between from to (x ∷ [])) ≡ []
 before_all records from to x b = ap (λ c. values_of records (if c || is_after to x then [] else x ∷ [])) b
@@ -96,11 +90,6 @@ within_all records from to x b a =
     ap (λ c. values_of records (if c || is_after to x then [] else x ∷ [])) b ∙ ap (λ c. values_of records (if c then [] else x ∷ [])) a ∙ append-nil (item_values records x)
 
 -- ---- how a volume ends
-
-pub record SoFar (bytes : List ℕ) (records : List MetaRecord) (from to : Moment) (at : ℕ) (table : Rows) : Type 0 where
-  pub items : List Item
-  pub stand : StandUpTo bytes 132 items at
-  pub is : table ≡ table_between records from to items
 
 module _ (bytes : List ℕ) (is_last : Bool) (records : List MetaRecord) (from to : Moment) (at : ℕ) (table : Rows) (s : SoFar bytes records from to at table) where
   pub counted_here : IsTorn (drop at bytes) → is_last || nat_eq at (length bytes) ≡ true → IsCounted bytes is_last records from to table
@@ -130,9 +119,19 @@ module _ (bytes : List ℕ) (is_last : Bool) (records : List MetaRecord) (from t
     breaks = record { none = none; torn = λ _ torn. whole torn; ends = λ _ end. whole (inl (omega (arith, length-drop at bytes, end))) };
   }
 
-  pub goes_on : (x : Item) (next : ℕ) (more : Rows) → ItemStands bytes at next x → more ≡ fold counted table (values_of records (between from to (x ∷ []))) → SoFar bytes records from to next more
-  goes_on x next more stands is = record {
-    items = s.items ++ x ∷ [];
-    stand = one_stands bytes 132 s.items at next x s.stand stands;
-    is = more_between records from to s.items x table more s.is is;
-  }
+-- ---- a piece
+
+pub walked_none : (bytes : List ℕ) (records : List MetaRecord) (from to : Moment) (table : Rows) → IsWalked bytes records from to table table 0
+walked_none bytes records from to table = record { items = []; stand = refl; within = omega arith; is = refl }
+
+-- an item more
+pub walked_on : (bytes : List ℕ) (records : List MetaRecord) (from to : Moment) (old new more : Rows) (at next : ℕ) (x : Item) → IsWalked bytes records from to old new at → ItemStands bytes at next x
+    → more ≡ fold counted new (values_of records (between from to (x ∷ []))) → IsWalked bytes records from to old more next
+walked_on bytes records from to old new more at next x w s is = record {
+  items = w.items ++ x ∷ [];
+  stand = one_stands bytes 0 w.items at next x w.stand s;
+  within = (item_fits bytes at next x s).1;
+  is = is ∙ ap (λ (rows : Rows). fold counted rows (values_of records (between from to (x ∷ [])))) w.is
+      ∙ sym (fold-append counted old (values_of records (between from to w.items)) (values_of records (between from to (x ∷ []))))
+      ∙ ap (fold counted old) (sym (both_between records from to w.items (x ∷ [])));
+}

@@ -3,6 +3,7 @@ pub mod Laws
 pub mod Lines
 pub mod Listed
 pub mod Numbers
+pub mod Pieces
 pub mod Summaries
 pub mod Tables
 pub mod Tallies

@@ -1,7 +1,6 @@
 -- What one volume's bytes say, and what its items come to between two moments.
 use Rattle.std.specs.Prelude.{◌≡◌, ℕ, Bool, true, false, List, [], ◌∷◌, length, drop}
 use Rattle.pcp_base.specs.Time.{Moment}
-use Rattle.pcp_base.specs.declared.file.FileId.TheVariants.{Volume}
 use Rattle.pcp_base.specs.declared.result.Item.{Item}
 use Rattle.pcp_model.specs.declared.records.MetaRecord.{MetaRecord}
 use Rattle.pcp_model.specs.Frame.{IsTorn}
@@ -9,8 +8,6 @@ use Rattle.archive_frame.specs.declared.fault.FrameFault.{FrameFault}
 use Rattle.archive_frame.specs.declared.fault.FrameFault.TheVariants.{Torn, Size, Lengths, Label, NoMemory as Refused}
 use Rattle.archive_loading.specs.Standing.{ItemStands, NoItemStands}
 use Rattle.archive_reader.specs.Searches.{between}
-use Rattle.archive_reader.specs.declared.fault.ReaderFault.{ReaderFault}
-use Rattle.archive_reader.specs.declared.fault.ReaderFault.TheVariants.{Compressed, NotArchive, DiskFault, NoMemory}
 use Rattle.log_summary.specs.Tables.{Rows, table_of}
 use Rattle.log_summary.specs.Values.{values_of}
 
@@ -30,6 +27,12 @@ table_between records from to items = table_of (values_of records (between from 
 abbrev pub StandUpTo : List ℕ → ℕ → List Item → ℕ → Type 0
 StandUpTo bytes at [] end = end ≡ at
 StandUpTo bytes at (x ∷ items) end = (next : ℕ) × ItemStands bytes at next x × StandUpTo bytes next items end
+
+-- the table is that of the items of the volume up to an offset
+pub record SoFar (bytes : List ℕ) (records : List MetaRecord) (from to : Moment) (at : ℕ) (table : Rows) : Type 0 where
+  pub items : List Item
+  pub stand : StandUpTo bytes 132 items at
+  pub is : table ≡ table_between records from to items
 
 -- the last volume may end in a record that isn't whole
 pub record EndsAt (bytes : List ℕ) (is_last : Bool) (at : ℕ) : Type 0 where
@@ -55,10 +58,3 @@ pub record IsBroken (bytes : List ℕ) (is_last : Bool) (at : ℕ) : Type 0 wher
   pub items : List Item
   pub stand : StandUpTo bytes 132 items at
   pub breaks : BreaksAt bytes is_last at
-
--- why a volume isn't counted
-abbrev pub IsVolumeFault : ℕ → List ℕ → Bool → ReaderFault → Type 0
-IsVolumeFault n bytes is_last (Compressed file) = ⊥
-IsVolumeFault n bytes is_last (NotArchive file at) = (file ≡ Volume n) × IsBroken bytes is_last at
-IsVolumeFault n bytes is_last DiskFault = ⊥
-IsVolumeFault n bytes is_last NoMemory = Unit {0}

@@ -3,6 +3,7 @@
 //! together in the volumes' order, so the summary is that of the whole scan.
 #![tactic(auto)]
 
+mod job;
 mod jobs;
 mod laws;
 mod lines;

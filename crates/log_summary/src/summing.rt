@@ -9,7 +9,8 @@ ghost use Rattle.archive_reader.specs.Values.{IsWholeFault};
 ghost use Rattle.archive_reader.specs.declared.fault.ReaderFault.TheVariants.{DiskFault};
 ghost use Rattle.log_summary.specs.Summaries.{IsSoFar, IsTableOf, IsSummary, IsSummaryFault};
 
-use crate::jobs::{Job, count_jobs, merge_all, next_jobs};
+use crate::job::Job;
+use crate::jobs::{count_next, merge_all};
 use crate::table::Table;
 use archive_meta::MetaState;
 use archive_reader::{ArchiveReader, ReaderFault};
@@ -52,10 +53,11 @@ fn sum_some<D: Disk, T: Turn + Sync, R: Threads + Sync>(
     ensures cause { IfErr result (λ e. e ≡ DiskFault → Rose (D.faults disk.old) (D.faults disk.new)) }
     ensures quiet { OnOk result (D.faults disk.new ≡ D.faults disk.old) }
 {
-    let jobs = next_jobs(alloc, disk, volumes, index, workers)?;
+    let jobs = count_next(
+        rt, alloc, workers, meta, from, to, disk, volumes, index, turn,
+    )?;
     let next = behind(index, &jobs);
-    let counts = count_jobs(rt, alloc, meta, from, to, jobs, turn)?;
-    match merge_all(total, counts) {
+    match merge_all(total, jobs) {
         Ok(()) => Ok(next),
         Err(fault) => Err(fault),
     }
@@ -92,10 +94,11 @@ fn sum_volumes<D: Disk, T: Turn + Sync, R: Threads + Sync>(
 }
 
 /// The summary of the items of an archive that are stamped neither before the first moment nor after the second: a line for
-/// each metric's instance that has numbers, whatever the number of workers, which is at least 1. Volumes are read in their
-/// order, as many at a time as there are workers, and then counted by the workers beside each other: each calls `turn` with
-/// its number from 0 and the volume's before it counts. The disk is left as it was. `Compressed` and `NotArchive` name the
-/// first place that is wrong, as `ArchiveReader::load` does, or the first record of a volume that is no item's.
+/// each metric's instance that has numbers, whatever the number of workers, which is at least 1. As many volumes at a time as
+/// there are workers are counted beside each other, in their order, one by each worker; of each a piece of 1 MiB at a time is
+/// read and then counted, so no more is in memory, but for a record that is longer. A worker calls `turn` with its number from
+/// 0 and the volume's before it counts. The disk is left as it was. `Compressed` and `NotArchive` name the first place that
+/// is wrong, as `ArchiveReader::load` does, or the first record of a volume that is no item's.
 pub fn summarize<D: Disk, T: Turn + Sync, R: Threads + Sync>(
     rt: &R,
     alloc: Global,

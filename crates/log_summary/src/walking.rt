@@ -1,23 +1,20 @@
-//! The items of one volume, one after another.
-ghost use Rattle.std.specs.Prelude.{◌≡◌, ◌≢◌, ◌||◌, [], ◌∷◌, length, nat_eq, fold, IfOk, IfErr, OnOk};
+//! The items of which some bytes have the records, one after another.
+ghost use Rattle.std.specs.Prelude.{◌≡◌, ◌≢◌, [], ◌∷◌, length, fold, IfOk, OnOk};
 ghost use Rattle.result_form.specs.declared.fault.FormFault.TheVariants.{NoMemory as Refused};
-ghost use Rattle.pcp_base.specs.declared.file.FileId.TheVariants.{Volume};
 ghost use Rattle.pcp_model.specs.Payload.{stamp_of};
 ghost use Rattle.archive_loading.specs.Standing.{IsItemOf, IsNextRecord, FitsNext};
-ghost use Rattle.archive_reader.specs.declared.fault.ReaderFault.TheVariants.{NotArchive};
 ghost use Rattle.archive_reader.specs.Searches.{is_after, is_before, between};
 ghost use Rattle.log_summary.specs.Tables.{counted};
 ghost use Rattle.log_summary.specs.Values.{values_of};
-ghost use Rattle.log_summary.specs.Volumes.{is_torn, IsCounted, IsVolumeFault};
+ghost use Rattle.log_summary.specs.Pieces.{StopsAs};
+ghost use Rattle.log_summary.specs.Volumes.{is_torn};
 
 use crate::table::Table;
 use archive_frame::{FrameFault, Step, step_forward};
 use archive_loading::Next;
 use archive_meta::MetaState;
-use archive_reader::ReaderFault;
 use archive_volume::decode_item;
 use pcp_base::{Item, NoMemory, Stamp};
-use pcp_outside::FileId;
 use result_form::FormFault;
 use std::alloc::Global;
 
@@ -61,7 +58,7 @@ fn is_torn(fault: FrameFault) -> bool
     }
 }
 
-// What stands at an offset of a volume's bytes.
+// What stands at an offset of bytes.
 fn next_in(alloc: Global, bytes: &[u8], at: usize) -> Result<Next, NoMemory>
     ensures found { IfOk result (IsNextRecord bytes.now at) }
     ensures within { IfOk result (FitsNext (length bytes.now) at) }
@@ -124,55 +121,35 @@ fn count_between(
     table.count(meta, item)
 }
 
-// The fault of a volume whose items break off at an offset.
-fn broken(number: u32, at: usize) -> ReaderFault
-    ensures { result ≡ NotArchive (Volume number) at }
-{
-    ReaderFault::NotArchive {
-        file: FileId::Volume(number),
-        at: at as u64,
-    }
+/// Where the counting of bytes stops.
+pub enum Stop {
+    /// No whole record follows from there on.
+    Torn(usize),
+    /// A record that is no item's follows there.
+    Bad(usize),
 }
 
-// Whether a volume ends where no whole record follows.
-fn ends_well(bytes: &[u8], is_last: bool, at: usize) -> bool
-    ensures { result ≡ (is_last || nat_eq at (length bytes.now)) }
-{
-    if is_last {
-        return true;
-    }
-    at == bytes.len()
-}
-
-/// What the items of a volume come to between two moments. The last volume may end in a record that isn't whole.
-pub fn count_volume(
+/// Counts the items between two moments whose records stand whole in the bytes, from the first byte on.
+pub fn count_whole(
     alloc: Global,
-    number: u32,
     bytes: &[u8],
-    is_last: bool,
     meta: &MetaState,
     from: Stamp,
     to: Stamp,
-) -> Result<Table, ReaderFault>
-    ensures counted { IfOk result (IsCounted bytes.now is_last meta.now from to) }
-    ensures fault { IfErr result (IsVolumeFault number bytes.now is_last) }
+    table: &mut Table,
+) -> Result<Stop, NoMemory>
+    ensures { IfOk result (StopsAs bytes.now meta.now from to table.old table.new) }
 {
-    let mut table = Table::empty(alloc);
-    let mut at = 132;
+    let mut at = 0;
     for _ in 0..u64::MAX {
         match next_in(alloc, bytes, at)? {
             Next::Item(item, next) => {
-                count_between(&mut table, meta, &item, from, to)?;
+                count_between(table, meta, &item, from, to)?;
                 at = next as usize;
             }
-            Next::End => {
-                if ends_well(bytes, is_last, at) {
-                    return Ok(table);
-                }
-                return Err(broken(number, at));
-            }
-            Next::Bad => return Err(broken(number, at)),
+            Next::End => return Ok(Stop::Torn(at)),
+            Next::Bad => return Ok(Stop::Bad(at)),
         }
     }
-    Err(ReaderFault::NoMemory)
+    Err(NoMemory)
 }

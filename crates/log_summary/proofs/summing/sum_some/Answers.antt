@@ -11,13 +11,13 @@ returns-in-Err-clause-fault g c = λ tells so_far.
     let volumes : List (ℕ × ℕ) = c.args.volumes.now in
     ⊎_elim (λ refused. lack_fault files volumes c.in-Err.fault (inr refused))
     (λ stops. all_stopped files volumes c.args.meta.now c.args.from c.args.to 0 (drop c.args.index volumes) c.in_ok-jobs.jobs.items (drop (c.args.index + vec_len c.in_ok-jobs.jobs) volumes)
-    c.in_ok-counts.counts.items c.args.total.now c.in-Err.fault (c.in_ok-jobs.ensures.jobs tells) c.in_ok-counts.ensures stops so_far)
+    c.args.total.now c.in-Err.fault (c.in_ok-jobs.ensures.jobs tells) stops so_far)
     c.in-Err.ensures.fault
 
 pub returns-in-Err-clause-cause : goal.returns-in-Err-clause-cause
 returns-in-Err-clause-cause g c = λ is.
     absurd (⊎_elim (λ refused. refused_is_no_disk c.in-Err.fault refused is)
-    (λ stops. no_disk_fault c.args.meta.now c.args.from c.args.to c.in_ok-jobs.jobs.items c.in_ok-counts.counts.items c.in-Err.fault c.in_ok-counts.ensures stops is) c.in-Err.ensures.fault)
+    (λ stops. no_disk_fault c.in_ok-jobs.jobs.items c.in-Err.fault stops is) c.in-Err.ensures.fault)
 
 pub returns-in-Ok-clause-summed : goal.returns-in-Ok-clause-summed
 returns-in-Ok-clause-summed g c = λ tells so_far.
@@ -25,4 +25,4 @@ returns-in-Ok-clause-summed g c = λ tells so_far.
     let volumes : List (ℕ × ℕ) = c.args.volumes.now in
     subst (λ n. IsSoFar files volumes c.args.meta.now c.args.from c.args.to (drop n volumes) c.merge_all.new.total) (sym c.behind-next.ensures)
     (all_merged files volumes c.args.meta.now c.args.from c.args.to 0 (drop c.args.index volumes) c.in_ok-jobs.jobs.items (drop (c.args.index + vec_len c.in_ok-jobs.jobs) volumes)
-    c.in_ok-counts.counts.items c.args.total.now c.merge_all.new.total (c.in_ok-jobs.ensures.jobs tells) c.in_ok-counts.ensures c.in-Ok.ensures.merged so_far)
+    c.args.total.now c.merge_all.new.total (c.in_ok-jobs.ensures.jobs tells) c.in-Ok.ensures.merged so_far)
