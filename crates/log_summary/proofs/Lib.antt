@@ -13,5 +13,6 @@ pub mod Rounds
 pub mod Rowed
 pub mod Tabled
 pub mod Telling
+pub mod Viewed
 pub mod Walked
 pub mod Whole

@@ -49,9 +49,6 @@ stands_whole bytes payload at next s (inr (least, most, few)) = let e : Ends byt
 pub torn_has_no_item : (bytes : List ℕ) (at : ℕ) → IsTorn (drop at bytes) → NoItemStands bytes at
 torn_has_no_item bytes at torn next x s = stands_whole bytes s.payload at next s.stands torn
 
-pub stands_fits : (bytes payload : List ℕ) (at next : ℕ) → Stands bytes payload at next → (at < next) × (next ≤ length bytes)
-stands_fits bytes payload at next s = let e : Ends bytes payload at next = stood bytes payload at next s in (omega (arith, e.size), e.within)
-
 pub item_fits : (bytes : List ℕ) (at next : ℕ) (x : Item) → ItemStands bytes at next x → (at < next) × (next ≤ length bytes)
 item_fits bytes at next x s = let e : Ends bytes s.payload at next = stood bytes s.payload at next s.stands in (omega (arith, e.size), e.within)
 

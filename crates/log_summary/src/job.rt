@@ -16,7 +16,6 @@ use archive_loading::Lack;
 use archive_meta::MetaState;
 use pcp_base::{NoMemory, Stamp};
 use pcp_outside::{Disk, FileId, Turn};
-use std::alloc::Global;
 
 /// How many bytes of a volume are read at a time, at most.
 const PIECE: u64 = 1_048_576;
@@ -205,14 +204,7 @@ fn take_turn<T: Turn>(job: &Job, turn: &T) {
 }
 
 /// A worker counts the items that stand whole in what was read of its volume. Before the first piece it takes its turn.
-pub fn count_piece<T: Turn>(
-    alloc: Global,
-    meta: &MetaState,
-    from: Stamp,
-    to: Stamp,
-    job: Job,
-    turn: &T,
-) -> Job
+pub fn count_piece<T: Turn>(meta: &MetaState, from: Stamp, to: Stamp, job: Job, turn: &T) -> Job
     ensures { IsCountedOn meta.now from to job result }
 {
     if !job.is_open() {
@@ -221,9 +213,9 @@ pub fn count_piece<T: Turn>(
     take_turn(&job, turn);
     let mut job = job;
     job.is_new = false;
-    match count_whole(alloc, job.bytes.as_slice(), meta, from, to, &mut job.table) {
+    match count_whole(job.bytes.as_slice(), meta, from, to, &mut job.table) {
         Ok(Stop::Torn(at)) => counted_to(job, at),
-        Ok(Stop::Bad(at)) => broken_at(job, at),
+        Ok(Stop::Wrong(at)) => broken_at(job, at),
         Err(_) => {
             job.progress = Progress::Refused;
             job

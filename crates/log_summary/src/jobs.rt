@@ -102,7 +102,6 @@ fn read_pieces<D: Disk>(
 // Counts what was read of each volume, by workers beside each other.
 fn count_pieces<T: Turn + Sync, R: Threads + Sync>(
     rt: &R,
-    alloc: Global,
     meta: &MetaState,
     from: Stamp,
     to: Stamp,
@@ -117,7 +116,7 @@ fn count_pieces<T: Turn + Sync, R: Threads + Sync>(
         jobs,
         &|job: Job| -> Job
             ensures { IsCountedOn meta.entry.now from to job result }
-        { count_piece(alloc, meta, from, to, job, turn) },
+        { count_piece(meta, from, to, job, turn) },
     )?;
     Ok(counted)
 }
@@ -158,7 +157,7 @@ pub fn count_next<D: Disk, T: Turn + Sync, R: Threads + Sync>(
             return Ok(jobs);
         }
         let read = read_pieces(alloc, disk, jobs)?;
-        jobs = count_pieces(rt, alloc, meta, from, to, read, turn)?;
+        jobs = count_pieces(rt, meta, from, to, read, turn)?;
     }
     Err(ReaderFault::NoMemory)
 }

@@ -2,6 +2,8 @@
 ghost use Rattle.std.specs.Prelude.{◌≡◌, ◌<◌, [], ◌∷◌, fold, length, true, Some, slice_get, OnOk};
 ghost use Rattle.std.specs.Option.{option_copied};
 ghost use Rattle.archive_meta.specs.Said.{description_of, desc_of};
+ghost use Rattle.archive_volume.specs.Items.{item_of};
+ghost use Rattle.result_view.specs.Bodies.{as_body};
 ghost use Rattle.log_summary.specs.declared.tally.Tally.{Tally as Told};
 ghost use Rattle.log_summary.specs.Tables.{Key, joined_to, put, merged, counted};
 ghost use Rattle.log_summary.specs.Tallies.{single};
@@ -11,7 +13,8 @@ use crate::numbers::{block_number, word_number};
 use crate::tally::Tally;
 use archive_meta::MetaState;
 use indexmap::IndexMap;
-use pcp_base::{Block, Body, Item, NoMemory, Pmid, Stamp, ValueSet};
+use pcp_base::{NoMemory, Pmid, Stamp};
+use result_view::{BlocksView, BodyView, ResultView, SetView, SetsView, WordsView};
 use std::alloc::Global;
 use std::marker::Model;
 
@@ -137,12 +140,13 @@ impl Table {
         code: Option<u32>,
         pmid: Pmid,
         stamp: Stamp,
-        values: &[(i32, u32)],
+        values: WordsView<'_>,
     ) -> Result<(), NoMemory>
-        ensures { OnOk result (self.new ≡ fold counted self.old (word_values code pmid stamp values.now)) }
+        ensures { OnOk result (self.new ≡ fold counted self.old (word_values code pmid stamp values.entry)) }
     {
-        for value in values {
-            self.count_number(pmid, stamp, value.0, word_number(code, value.1))?;
+        let mut left = values;
+        while let Some((instance, word)) = left.next() {
+            self.count_number(pmid, stamp, instance, word_number(code, word))?;
         }
         Ok(())
     }
@@ -153,26 +157,45 @@ impl Table {
         code: Option<u32>,
         pmid: Pmid,
         stamp: Stamp,
-        values: &[(i32, Block)],
+        values: BlocksView<'_>,
     ) -> Result<(), NoMemory>
-        ensures { OnOk result (self.new ≡ fold counted self.old (block_values code pmid stamp values.now)) }
+        ensures { OnOk result (self.new ≡ fold counted self.old (block_values code pmid stamp values.entry)) }
     {
-        for value in values {
-            let number = block_number(code, value.1.bytes());
-            self.count_number(pmid, stamp, value.0, number)?;
+        let mut left = values;
+        while let Some((instance, block)) = left.next() {
+            let number = block_number(code, block.bytes());
+            self.count_number(pmid, stamp, instance, number)?;
         }
         Ok(())
     }
 
-    fn count_set(&mut self, meta: &MetaState, stamp: Stamp, set: &ValueSet) -> Result<(), NoMemory>
+    fn count_body(
+        &mut self,
+        code: Option<u32>,
+        pmid: Pmid,
+        stamp: Stamp,
+        body: BodyView<'_>,
+    ) -> Result<(), NoMemory>
+        ensures { OnOk result (self.new ≡ fold counted self.old (body_values code pmid stamp (as_body body.entry))) }
+    {
+        match body {
+            BodyView::InPlace(values) => self.count_words(code, pmid, stamp, values),
+            BodyView::Blocks(values) => self.count_blocks(code, pmid, stamp, values),
+            BodyView::Status(_) => Ok(()),
+        }
+    }
+
+    fn count_set(
+        &mut self,
+        meta: &MetaState,
+        stamp: Stamp,
+        set: &SetView<'_>,
+    ) -> Result<(), NoMemory>
         ensures { OnOk result (self.new ≡ fold counted self.old (set_values meta.now stamp set.now)) }
     {
-        let code = code_of(meta, set.pmid);
-        match &set.body {
-            Body::InPlace(values) => self.count_words(code, set.pmid, stamp, values.as_slice()),
-            Body::Blocks(values) => self.count_blocks(code, set.pmid, stamp, values.as_slice()),
-            Body::Status(_) => Ok(()),
-        }
+        let pmid = set.pmid();
+        let code = code_of(meta, pmid);
+        self.count_body(code, pmid, stamp, set.body())
     }
 
     #[tactic(auto, using(crate::proofs::Counting::values_more))]
@@ -180,24 +203,23 @@ impl Table {
         &mut self,
         meta: &MetaState,
         stamp: Stamp,
-        sets: &[ValueSet],
+        sets: SetsView<'_>,
     ) -> Result<(), NoMemory>
-        ensures { OnOk result (self.new ≡ fold counted self.old (sets_values meta.now stamp sets.now)) }
+        ensures { OnOk result (self.new ≡ fold counted self.old (sets_values meta.now stamp sets.entry)) }
     {
-        for set in sets {
-            self.count_set(meta, stamp, set)?;
+        let mut left = sets;
+        while let Some(set) = left.next() {
+            self.count_set(meta, stamp, &set)?;
         }
         Ok(())
     }
 
-    /// Counts the numbers of an item behind those counted. After a refusal some of them may be counted.
-    pub fn count(&mut self, meta: &MetaState, item: &Item) -> Result<(), NoMemory>
-        ensures { OnOk result (self.new ≡ fold counted self.old (item_values meta.now item.now)) }
+    /// Counts the numbers of a result, as an item, behind those counted. After a refusal some of them may be counted.
+    pub fn count(&mut self, meta: &MetaState, read: &ResultView<'_>) -> Result<(), NoMemory>
+        ensures { OnOk result (self.new ≡ fold counted self.old (item_values meta.now (item_of read.now))) }
     {
-        match item {
-            Item::Sample(answer) => self.count_sets(meta, answer.stamp, answer.sets.as_slice()),
-            Item::Mark(_) => Ok(()),
-        }
+        self.count_sets(meta, read.stamp(), read.sets())?;
+        Ok(())
     }
 
     /// Puts what another table counted behind what this one did. After a refusal some of it may be there.

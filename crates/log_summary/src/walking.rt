@@ -1,43 +1,28 @@
 //! The items of which some bytes have the records, one after another.
-ghost use Rattle.std.specs.Prelude.{◌≡◌, ◌≢◌, [], ◌∷◌, length, fold, IfOk, OnOk};
-ghost use Rattle.result_form.specs.declared.fault.FormFault.TheVariants.{NoMemory as Refused};
+ghost use Rattle.std.specs.Prelude.{◌≡◌, ◌≤◌, [], ◌∷◌, length, fold, IfOk, OnOk};
+ghost use Rattle.std.specs.Option.{option_map};
 ghost use Rattle.pcp_model.specs.Payload.{stamp_of};
-ghost use Rattle.archive_loading.specs.Standing.{IsItemOf, IsNextRecord, FitsNext};
+ghost use Rattle.archive_loading.specs.Standing.{IsItemOf};
 ghost use Rattle.archive_reader.specs.Searches.{is_after, is_before, between};
+ghost use Rattle.archive_volume.specs.Items.{item_of};
+ghost use Rattle.log_summary.specs.Pieces.{IsFound, StopsAs};
 ghost use Rattle.log_summary.specs.Tables.{counted};
 ghost use Rattle.log_summary.specs.Values.{values_of};
-ghost use Rattle.log_summary.specs.Pieces.{StopsAs};
 ghost use Rattle.log_summary.specs.Volumes.{is_torn};
 
 use crate::table::Table;
 use archive_frame::{FrameFault, Step, step_forward};
-use archive_loading::Next;
 use archive_meta::MetaState;
-use archive_volume::decode_item;
-use pcp_base::{Item, NoMemory, Stamp};
-use result_form::FormFault;
-use std::alloc::Global;
+use pcp_base::{NoMemory, Stamp};
+use result_view::ResultView;
 
-// Goes on unless memory was refused.
-fn go_on(fault: FormFault) -> Result<(), NoMemory>
-    ensures { OnOk result (fault ≢ Refused) }
+// The result that a payload is.
+fn result_of(payload: &[u8]) -> Option<ResultView<'_>>
+    ensures { IsItemOf payload.now (option_map item_of result) }
 {
-    if fault == FormFault::NoMemory {
-        return Err(NoMemory);
-    }
-    Ok(())
-}
-
-// The item that a payload is.
-fn item_of(alloc: Global, payload: &[u8]) -> Result<Option<Item>, NoMemory>
-    ensures { IfOk result (IsItemOf payload.now) }
-{
-    match decode_item(alloc, payload) {
-        Ok(item) => Ok(Some(item)),
-        Err(fault) => {
-            go_on(fault)?;
-            Ok(None)
-        }
+    match ResultView::read(payload) {
+        Ok(read) => Some(read),
+        Err(_) => None,
     }
 }
 
@@ -58,67 +43,72 @@ fn is_torn(fault: FrameFault) -> bool
     }
 }
 
+/// What stands at an offset of bytes.
+#[derive(Drop)]
+pub enum Found<'a> {
+    /// No whole record.
+    End,
+    /// No item's record.
+    Bad,
+    /// A result's record, up to this offset.
+    Whole(ResultView<'a>, usize),
+}
+
 // What stands at an offset of bytes.
-fn next_in(alloc: Global, bytes: &[u8], at: usize) -> Result<Next, NoMemory>
-    ensures found { IfOk result (IsNextRecord bytes.now at) }
-    ensures within { IfOk result (FitsNext (length bytes.now) at) }
+fn next_in(bytes: &[u8], at: usize) -> Found<'_>
+    requires { at ≤ length bytes.now }
+    ensures { IsFound bytes.now at result }
 {
-    if at >= bytes.len() {
-        return Ok(Next::End);
-    }
     match step_forward(bytes, at) {
-        Ok(Step::Payload { from, to, next }) => match item_of(alloc, &bytes[from..to])? {
-            Some(item) => Ok(Next::Item(item, next as u64)),
-            None => Ok(Next::Bad),
+        Ok(Step::Payload { from, to, next }) => match result_of(&bytes[from..to]) {
+            Some(read) => Found::Whole(read, next),
+            None => Found::Bad,
         },
-        Ok(Step::End) => Ok(Next::End),
+        Ok(Step::End) => Found::End,
         Err(fault) => {
             if is_torn(fault) {
-                return Ok(Next::End);
+                return Found::End;
             }
-            Ok(Next::Bad)
+            Found::Bad
         }
     }
 }
 
-fn stamp_of(item: &Item) -> Stamp
-    ensures { result ≡ stamp_of item.now }
+fn stamp_of(read: &ResultView<'_>) -> Stamp
+    ensures { result ≡ stamp_of (item_of read.now) }
 {
-    match item {
-        Item::Sample(answer) => answer.stamp,
-        Item::Mark(stamp) => *stamp,
-    }
+    read.stamp()
 }
 
-fn is_before(item: &Item, t: Stamp) -> bool
-    ensures { result ≡ is_before t item.now }
+fn is_before(read: &ResultView<'_>, t: Stamp) -> bool
+    ensures { result ≡ is_before t (item_of read.now) }
 {
-    stamp_of(item).microseconds() < t.microseconds()
+    stamp_of(read).microseconds() < t.microseconds()
 }
 
-fn is_after(item: &Item, t: Stamp) -> bool
-    ensures { result ≡ is_after t item.now }
+fn is_after(read: &ResultView<'_>, t: Stamp) -> bool
+    ensures { result ≡ is_after t (item_of read.now) }
 {
-    t.microseconds() < stamp_of(item).microseconds()
+    t.microseconds() < stamp_of(read).microseconds()
 }
 
-// Counts an item, unless it is before the first moment or after the second.
+// Counts a result, unless it is before the first moment or after the second.
 fn count_between(
     table: &mut Table,
     meta: &MetaState,
-    item: &Item,
+    read: &ResultView<'_>,
     from: Stamp,
     to: Stamp,
 ) -> Result<(), NoMemory>
-    ensures { OnOk result (table.new ≡ fold counted table.old (values_of meta.now (between from to (item.now ∷ [])))) }
+    ensures { OnOk result (table.new ≡ fold counted table.old (values_of meta.now (between from to (item_of read.now ∷ [])))) }
 {
-    if is_before(item, from) {
+    if is_before(read, from) {
         return Ok(());
     }
-    if is_after(item, to) {
+    if is_after(read, to) {
         return Ok(());
     }
-    table.count(meta, item)
+    table.count(meta, read)
 }
 
 /// Where the counting of bytes stops.
@@ -126,12 +116,11 @@ pub enum Stop {
     /// No whole record follows from there on.
     Torn(usize),
     /// A record that is no item's follows there.
-    Bad(usize),
+    Wrong(usize),
 }
 
 /// Counts the items between two moments whose records stand whole in the bytes, from the first byte on.
 pub fn count_whole(
-    alloc: Global,
     bytes: &[u8],
     meta: &MetaState,
     from: Stamp,
@@ -142,13 +131,13 @@ pub fn count_whole(
 {
     let mut at = 0;
     for _ in 0..u64::MAX {
-        match next_in(alloc, bytes, at)? {
-            Next::Item(item, next) => {
-                count_between(table, meta, &item, from, to)?;
-                at = next as usize;
+        match next_in(bytes, at) {
+            Found::Whole(read, next) => {
+                count_between(table, meta, &read, from, to)?;
+                at = next;
             }
-            Next::End => return Ok(Stop::Torn(at)),
-            Next::Bad => return Ok(Stop::Bad(at)),
+            Found::End => return Ok(Stop::Torn(at)),
+            Found::Bad => return Ok(Stop::Wrong(at)),
         }
     }
     Err(NoMemory)

@@ -1,9 +1,12 @@
 -- The values so far are counted, and those left are to come.
-use Rattle.std.proofs.Common.{◌≡◌, drop, fold}
+use Rattle.std.proofs.Common.{◌≡◌, fold, length}
 use Rattle.log_summary.specs.Tables.{counted}
 use Rattle.log_summary.specs.Values.{block_values}
 use Rattle.log_summary.proofs.table.Table.count_blocks.Given as goal
 
-abbrev pub invariant-loop-value : goal.invariant-loop-value
-invariant-loop-value l =
-    fold counted l.self (block_values l.code l.pmid l.stamp (drop l.value-index l.values)) ≡ fold counted l.initial.self (block_values l.code l.pmid l.stamp l.values)
+abbrev pub invariant-loop-instance : goal.invariant-loop-instance
+invariant-loop-instance l =
+    fold counted l.self (block_values l.code l.pmid l.stamp l.left) ≡ fold counted l.initial.self (block_values l.code l.pmid l.stamp l.initial.left)
+
+abbrev pub decreases-loop-instance : goal.decreases-loop-instance
+decreases-loop-instance l = length l.left
