@@ -68,7 +68,7 @@ fn serve<O: Sink, D: Disk>(
         Command::At(t) => at(alloc, *t, disk),
         Command::Range(from, to) => range(alloc, *from, *to, disk),
         Command::Value(asked) => value(alloc, asked, disk),
-        Command::Watch(from, to) => watch(alloc, *from, *to, input, disk),
+        Command::Watch(from, to) => watch(alloc, out, failed, *from, *to, input, disk),
         // They are other calls'.
         Command::Record(_)
         | Command::Serve(_)

@@ -39,11 +39,11 @@ pub value_coherent : (asked : ValueWords) → IsCoherent (value.value asked)
 value_coherent asked = look_coherent (value.IsTurnedAway asked) (value.IsOutput asked) nothing_before takes_any (value_fits asked) (λ files n. tt) (value_nothing asked) (value_said asked)
 
 -- a watch of each input
-watching : (from to : Moment) (input : List ℕ) → IsCoherent (looks dump.IsTurnedAway (watch.IsOutput from to input) nothing_before takes_any)
-watching from to input = quiet_coherent dump.IsTurnedAway (watch.IsOutput from to input) nothing_before takes_any (watch_fits from to input) (λ files n. tt) (λ f stamp n. neither (λ (a : ⊥). a) (λ b. b.2) n)
+watching : (from to : Moment) (input : List ℕ) → IsCoherent (looks dump.IsTurnedAway (watch.IsOutput from to input) (watch.IsFrontOutput from to input) takes_any)
+watching from to input = quiet_coherent dump.IsTurnedAway (watch.IsOutput from to input) (watch.IsFrontOutput from to input) takes_any (watch_fits from to input) (λ files n. tt) (λ f stamp n. neither (λ (a : ⊥). a) (λ b. b.2) n)
 
 pub watch_coherent : (from to : Moment) → IsCoherent (watch.watch from to)
-watch_coherent from to = coherent_by watch.refuses dump.IsTurnedAway (watch.IsOutput from to) takes_any (watching from to)
+watch_coherent from to = coherent_by watch.refuses dump.IsTurnedAway (watch.IsOutput from to) (watch.IsFrontOutput from to) takes_any (watching from to)
 
 pub mmv_make_coherent : IsCoherent mmv_make.mmv_make
 mmv_make_coherent = converts_coherent mmv_make.refuses mmv_make.makes

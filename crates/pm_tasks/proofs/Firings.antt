@@ -64,18 +64,18 @@ module _ (t : Moment) (rules : List Rule) (all : List ℕ) (before : Told) where
       let done : TellingOn t rules all [] before now = subst (λ (left : List ℕ). TellingOn t rules all left before now) (drop_all at all past) g in
       record { text = sym (append-nil now.text.items) ∙ done.text; count = omega (arith, done.count) }
 
--- of these items the rules that hold at the samples between the moments are told, over the rows of these
-pub record Watching (records : List MetaRecord) (rules : List Rule) (from to : Moment) (items : List Item) (watch : List KeptRule) (told : Told) : Type 0 where
+-- of these items the rules that hold at the samples between the moments are told, over the rows of these; a front of the lines was sent
+pub record Watching (records : List MetaRecord) (rules : List Rule) (from to : Moment) (items : List Item) (watch : List KeptRule) (front : List ℕ) (told : Told) : Type 0 where
   pub rows : List Row
   pub so_far : List Firing
   pub shows : Shows watch rows
   pub rules_are : rules_of watch ≡ rules
-  pub text : told.text.items ≡ firing_lines so_far
+  pub text : front ++ told.text.items ≡ firing_lines so_far
   pub count : told.count ≡ length so_far
   pub goes : (left : List Item) (others : List Firing) → AreTold rules rows (samples_of records (between from to left)) others → AreTold rules [] (samples_of records (between from to (items ++ left))) (so_far ++ others)
 
 module _ (records : List MetaRecord) (rules : List Rule) (from to : Moment) where
-  pub items_begin : (watch : List KeptRule) (told : Told) → Shows watch [] → rules_of watch ≡ rules → told.text.items ≡ [] → told.count ≡ 0 → Watching records rules from to [] watch told
+  pub items_begin : (watch : List KeptRule) (told : Told) → Shows watch [] → rules_of watch ≡ rules → told.text.items ≡ [] → told.count ≡ 0 → Watching records rules from to [] watch [] told
   items_begin watch told shows rules_are text count = record {
     rows = [];
     so_far = [];
@@ -97,22 +97,22 @@ module _ (records : List MetaRecord) (rules : List Rule) (from to : Moment) wher
   outside_first x left b is = ap (λ c. if c then between from to left else x ∷ between from to left) is
 
   -- nothing is told
-  still : (items : List Item) (x : Item) (old new : List KeptRule) (before after : Told) → new ≡ old → after ≡ before → ((left : List Item) → samples_of records (between from to (x ∷ left)) ≡ samples_of records (between from to left))
-      → Watching records rules from to items old before → Watching records rules from to (items ++ x ∷ []) new after
-  still items x old new before after same alike silent g = record {
+  still : (items : List Item) (x : Item) (old new : List KeptRule) (front : List ℕ) (before after : Told) → new ≡ old → after ≡ before → ((left : List Item) → samples_of records (between from to (x ∷ left)) ≡ samples_of records (between from to left))
+      → Watching records rules from to items old front before → Watching records rules from to (items ++ x ∷ []) new front after
+  still items x old new front before after same alike silent g = record {
     rows = g.rows;
     so_far = g.so_far;
     shows = subst (λ (w : List KeptRule). Shows w g.rows) (sym same) g.shows;
     rules_are = ap rules_of same ∙ g.rules_are;
-    text = ap (λ (d : Told). d.text.items) alike ∙ g.text;
+    text = ap (λ (d : Told). front ++ d.text.items) alike ∙ g.text;
     count = ap (λ (d : Told). d.count) alike ∙ g.count;
     goes = λ left others are. in_front items x left (g.so_far ++ others) (g.goes (x ∷ left) others (subst (λ (samples : List (Moment × Row)). AreTold rules g.rows samples others) (sym (silent left)) are));
   }
 
   -- an item between the moments is told
-  told_next : (items : List Item) (x : Item) (old new : List KeptRule) (before after : Told) → is_outside from to x ≡ false → TellsItem records x old new before after
-      → Watching records rules from to items old before → Watching records rules from to (items ++ x ∷ []) new after
-  told_next items (Sample r) old new before after inside m g =
+  told_next : (items : List Item) (x : Item) (old new : List KeptRule) (front : List ℕ) (before after : Told) → is_outside from to x ≡ false → TellsItem records x old new before after
+      → Watching records rules from to items old front before → Watching records rules from to (items ++ x ∷ []) new front after
+  told_next items (Sample r) old new front before after inside m g =
       let row : Row = row_of records r.sets in
       let more : List Firing = firings_of r.stamp rules m.numbers in
       let a = m.answers g.rows g.shows in
@@ -123,7 +123,7 @@ module _ (records : List MetaRecord) (rules : List Rule) (from to : Moment) wher
         so_far = g.so_far ++ more;
         shows = a.0;
         rules_are = m.rules ∙ g.rules_are;
-        text = told.text ∙ ap (λ (t : List ℕ). t ++ firing_lines more) g.text ∙ sym (lines_append g.so_far more);
+        text = ap (λ (t : List ℕ). front ++ t) told.text ∙ sym (append_assoc front before.text.items (firing_lines more)) ∙ ap (λ (t : List ℕ). t ++ firing_lines more) g.text ∙ sym (lines_append g.so_far more);
         count = omega (arith, told.count, g.count, length-append g.so_far more);
         goes = λ left others are.
             subst (After ((items ++ Sample r ∷ []) ++ left)) (sym (append_assoc g.so_far more others))
@@ -131,21 +131,39 @@ module _ (records : List MetaRecord) (rules : List Rule) (from to : Moment) wher
             (g.goes (Sample r ∷ left) (more ++ others)
             (subst (λ (xs : List Item). AreTold rules g.rows (samples_of records xs) (more ++ others)) (sym (outside_first (Sample r) left false inside)) (m.numbers, others, tells, are, refl))));
       }
-  told_next items (Mark t) old new before after inside m g = still items (Mark t) old new before after m.0 m.1 (λ left. ap (samples_of records) (outside_first (Mark t) left false inside)) g
+  told_next items (Mark t) old new front before after inside m g = still items (Mark t) old new front before after m.0 m.1 (λ left. ap (samples_of records) (outside_first (Mark t) left false inside)) g
 
-  by_place : (b : Bool) (items : List Item) (x : Item) (old new : List KeptRule) (before after : Told) → is_outside from to x ≡ b → TellsUnless b records x old new before after
-      → Watching records rules from to items old before → Watching records rules from to (items ++ x ∷ []) new after
-  by_place true items x old new before after outside m g = still items x old new before after m.0 m.1 (λ left. ap (samples_of records) (outside_first x left true outside)) g
-  by_place false items x old new before after inside m g = told_next items x old new before after inside m g
+  by_place : (b : Bool) (items : List Item) (x : Item) (old new : List KeptRule) (front : List ℕ) (before after : Told) → is_outside from to x ≡ b → TellsUnless b records x old new before after
+      → Watching records rules from to items old front before → Watching records rules from to (items ++ x ∷ []) new front after
+  by_place true items x old new front before after outside m g = still items x old new front before after m.0 m.1 (λ left. ap (samples_of records) (outside_first x left true outside)) g
+  by_place false items x old new front before after inside m g = told_next items x old new front before after inside m g
 
-  pub items_on : (items : List Item) (x : Item) (old new : List KeptRule) (before after : Told) → TellsBetween records from to x old new before after → Watching records rules from to items old before
-      → Watching records rules from to (items ++ x ∷ []) new after
-  items_on items x old new before after m g = by_place (is_outside from to x) items x old new before after refl m g
+  pub items_on : (items : List Item) (x : Item) (old new : List KeptRule) (front : List ℕ) (before after : Told) → TellsBetween records from to x old new before after → Watching records rules from to items old front before
+      → Watching records rules from to (items ++ x ∷ []) new front after
+  items_on items x old new front before after m g = by_place (is_outside from to x) items x old new front before after refl m g
 
-  pub items_end : (items : List Item) (watch : List KeptRule) (told : Told) → Watching records rules from to items watch told → TellsAll records rules (between from to items) told
-  items_end items watch told g = record {
+  -- a further front of the lines is sent
+  pub items_sent : (items : List Item) (watch : List KeptRule) (front piece : List ℕ) (told left : Told) → told.text.items ≡ piece ++ left.text.items → left.count ≡ told.count
+      → Watching records rules from to items watch front told → Watching records rules from to items watch (front ++ piece) left
+  items_sent items watch front piece told left whole same g = record {
+    rows = g.rows;
+    so_far = g.so_far;
+    shows = g.shows;
+    rules_are = g.rules_are;
+    text = append_assoc front piece left.text.items ∙ ap (λ (t : List ℕ). front ++ t) (sym whole) ∙ g.text;
+    count = same ∙ g.count;
+    goes = g.goes;
+  }
+
+  -- what was told so far
+  pub told_so_far : (items : List Item) (watch : List KeptRule) (front : List ℕ) (told : Told) (g : Watching records rules from to items watch front told) → AreTold rules [] (samples_of records (between from to items)) g.so_far
+  told_so_far items watch front told g =
+      subst (λ (xs : List Item). After xs g.so_far) (append-nil items) (subst (After (items ++ [])) (append-nil g.so_far) (g.goes [] [] refl))
+
+  pub items_end : (items : List Item) (watch : List KeptRule) (front : List ℕ) (told : Told) → Watching records rules from to items watch front told → TellsAll records rules (between from to items) front told
+  items_end items watch front told g = record {
     told = g.so_far;
-    are = subst (λ (xs : List Item). After xs g.so_far) (append-nil items) (subst (After (items ++ [])) (append-nil g.so_far) (g.goes [] [] refl));
+    are = told_so_far items watch front told g;
     text = g.text;
     count = g.count;
   }

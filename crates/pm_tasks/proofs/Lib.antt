@@ -10,4 +10,5 @@ pub mod Nothing
 pub mod ReadFirst
 pub mod Taken
 pub mod Timed
+pub mod WatchMeets
 pub mod Watched

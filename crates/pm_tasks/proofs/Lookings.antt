@@ -211,7 +211,7 @@ module _ (turned : Found → Refusal → Type 0) (said : Found → List ℕ → 
 
   module _ {D : Type 0} (g : DiskGhosts D) (input : List ℕ) (a b : D) (looked : Looks g a b) (took : g.tells → taken (contents_of (g.held a)) (g.taken a) (g.taken b)) where
     -- done, where a front of the text went to the sink before
-    look_done : (front text : List ℕ) → g.faults b ≡ g.faults a → (g.tells → said (files_found (disk_side g a b)) (front ++ text)) → Meets (looks turned said first taken) input g a b None front (Ok text)
+    pub look_done : (front text : List ℕ) → g.faults b ≡ g.faults a → (g.tells → said (files_found (disk_side g a b)) (front ++ text)) → Meets (looks turned said first taken) input g a b None front (Ok text)
     look_done front text quiet told = record {
       done = look_served input (disk_side g a b) (front ++ text) looked.held quiet told;
       stops = tt;
@@ -226,7 +226,7 @@ module _ (turned : Found → Refusal → Type 0) (said : Found → List ℕ → 
     }
 
     -- or stopped
-    look_stopped : (front : List ℕ) (e : Refusal) → TurnedAway turned (disk_side g a b) e → first (disk_side g a b) front → Meets (looks turned said first taken) input g a b None front (Err e)
+    pub look_stopped : (front : List ℕ) (e : Refusal) → TurnedAway turned (disk_side g a b) e → first (disk_side g a b) front → Meets (looks turned said first taken) input g a b None front (Err e)
     look_stopped front e away begun = record {
       done = tt;
       stops = (look_stops input (disk_side g a b) e looked.held away, begun);

@@ -1,5 +1,5 @@
 -- A command that reads an input by which it looks at an archive: with an input that it reads it does what one does that only looks.
-use Rattle.std.proofs.Common.{◌≡◌, ℕ, List, [], refl, Option, Some, None, Result, Ok, Err}
+use Rattle.std.proofs.Common.{◌≡◌, ℕ, List, [], ◌++◌, refl, Option, Some, None, Result, Ok, Err}
 use Rattle.pcp_model.specs.Disk.{Files, contents_of}
 use Rattle.pcp_outside.specs.declared.disk.Disk.{Ghosts as DiskGhosts}
 use Rattle.archive_loading.proofs.Looking.{OnlyNow, looks_none}
@@ -11,15 +11,15 @@ use Rattle.pm_words.specs.Serving.{HasServed, Left, Meets, StopsAt}
 use Rattle.pm_words.specs.Sides.{DiskSide, Found, disk_side}
 use Rattle.pm_words.proofs.Coherent.{IsCoherent}
 use Rattle.pm_words.proofs.Serving.{no_good}
-use Rattle.pm_tasks.specs.Archives.{looks, looks_by, nothing_before}
+use Rattle.pm_tasks.specs.Archives.{looks, looks_by}
 use Rattle.pm_tasks.proofs.Lookings.{look_leaves, not_so}
 
-module _ (refuses : List ℕ → Option Refusal) (turned : Found → Refusal → Type 0) (said : List ℕ → Found → List ℕ → Type 0) (taken : Files → ℕ → ℕ → Type 0) where
+module _ (refuses : List ℕ → Option Refusal) (turned : Found → Refusal → Type 0) (said : List ℕ → Found → List ℕ → Type 0) (first : List ℕ → DiskSide → List ℕ → Type 0) (taken : Files → ℕ → ℕ → Type 0) where
   abbrev Plain : List ℕ → Meaning
-  Plain input = looks turned (said input) nothing_before taken
+  Plain input = looks turned (said input) (first input) taken
 
   abbrev Whole : Meaning
-  Whole = looks_by refuses turned said taken
+  Whole = looks_by refuses turned said first taken
 
   served_by : (input : List ℕ) (d : DiskSide) (text : List ℕ) → refuses input ≡ None → HasServed (Plain input) input d text → HasServed Whole input d text
   served_by input d text good s = record { good = good; welcome = s.welcome; done = s.done; says = s.says; kept = s.kept; settled = s.settled; quiet = s.quiet }
@@ -42,9 +42,9 @@ module _ (refuses : List ℕ → Option Refusal) (turned : Found → Refusal →
 
   module _ {D : Type 0} (g : DiskGhosts D) (input : List ℕ) where
     -- with an input that it reads
-    pub meets_by : (a b : D) (result : Result (List ℕ) Refusal) → refuses input ≡ None → Meets (Plain input) input g a b None [] result → Meets Whole input g a b None [] result
-    meets_by a b (Ok text) good m = record {
-      done = served_by input (disk_side g a b) text good m.done;
+    pub meets_by : (a b : D) (front : List ℕ) (result : Result (List ℕ) Refusal) → refuses input ≡ None → Meets (Plain input) input g a b None front result → Meets Whole input g a b None front result
+    meets_by a b front (Ok text) good m = record {
+      done = served_by input (disk_side g a b) (front ++ text) good m.done;
       stops = tt;
       aside = m.aside;
       unread = m.unread;
@@ -55,7 +55,7 @@ module _ (refuses : List ℕ → Option Refusal) (turned : Found → Refusal →
       regions = m.regions;
       unrun = m.unrun;
     }
-    meets_by a b (Err e) good m = record {
+    meets_by a b front (Err e) good m = record {
       done = tt;
       stops = (stops_by (stage_of e) input (disk_side g a b) e good m.stops.0, m.stops.1);
       aside = m.aside;
@@ -69,10 +69,10 @@ module _ (refuses : List ℕ → Option Refusal) (turned : Found → Refusal →
     }
 
     -- and with one that it doesn't read, or where memory runs out before. The law is the disk's own, `only_now`.
-    pub refused_by : (a : D) (e : Refusal) → OnlyNow g → ((files : Files) (n : ℕ) → taken files n n) → Refuses (Some refuses) input e → Meets Whole input g a a None [] (Err e)
-    refused_by a e now idle refused = record {
+    pub refused_by : (a : D) (e : Refusal) → OnlyNow g → ((files : Files) (n : ℕ) → taken files n n) → first input (disk_side g a a) [] → Refuses (Some refuses) input e → Meets Whole input g a a None [] (Err e)
+    refused_by a e now idle begun refused = record {
       done = tt;
-      stops = (no_good Whole input (disk_side g a a) e refused (λ tells. refl), refl);
+      stops = (no_good Whole input (disk_side g a a) e refused (λ tells. refl), begun);
       aside = λ h. refl;
       unread = λ other. (looks_none g now a).moments;
       any_moment = look_leaves g Whole input a a (looks_none g now a);

@@ -74,9 +74,9 @@ looks turned said first taken = record {
   ran = λ g input old new opened front answer. opened ≡ None;
 }
 
--- one that reads an input first, by which it looks, and writes nothing before it is done
-abbrev pub looks_by : (List ℕ → Option Refusal) → (Found → Refusal → Type 0) → (List ℕ → Found → List ℕ → Type 0) → (Files → ℕ → ℕ → Type 0) → Meaning
-looks_by refuses turned said taken = record {
+-- one that reads an input first, by which it looks
+abbrev pub looks_by : (List ℕ → Option Refusal) → (Found → Refusal → Type 0) → (List ℕ → Found → List ℕ → Type 0) → (List ℕ → DiskSide → List ℕ → Type 0) → (Files → ℕ → ℕ → Type 0) → Meaning
+looks_by refuses turned said first taken = record {
   reads = Some refuses;
   uses_disk = true;
   writes_archive = false;
@@ -84,7 +84,7 @@ looks_by refuses turned said taken = record {
   turns_away = λ input files e. turned files e;
   done = λ input d. Untouched d;
   says = λ input d text. d.tells → said input (files_found d) text;
-  begins = λ input d e front. nothing_before d front;
+  begins = λ input d e front. first input d front;
   keeps = λ input held crash. Unit {0};
   begun = λ status input d. ⊥;
   may_leave = λ input held crash. ⊥;

@@ -62,6 +62,15 @@ under_name set name = option_map (λ n. (n, set)) name
 abbrev pub named : List MetaRecord → ValueSet → Option (List ℕ × ValueSet)
 named records set = under_name set (first_name records set)
 
+-- a name, unless it isn't watched
+abbrev pub if_watched : (List ℕ → Bool) → Option (List ℕ) → Option (List ℕ)
+if_watched watched None = None
+if_watched watched (Some name) = if watched name then Some name else None
+
+-- the first name of a set's metric, if it is watched
+abbrev pub watched_name : (List ℕ → Bool) → List MetaRecord → ValueSet → Option (List ℕ)
+watched_name watched records set = if_watched watched (first_name records set)
+
 -- the row of a sample's sets, of those under one name the first alone
 abbrev pub row_of : List MetaRecord → List ValueSet → Row
 row_of records sets = flat_map (set_entries records) (firsts bytes_eq (named records) sets)

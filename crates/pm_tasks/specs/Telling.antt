@@ -92,9 +92,9 @@ is_outside from to x = is_before from x || is_after to x
 abbrev pub TellsBetween : List MetaRecord → Moment → Moment → Item → List KeptRule → List KeptRule → Told → Told → Type 0
 TellsBetween records from to x old new before after = TellsUnless (is_outside from to x) records x old new before after
 
--- the lines of all that rules tell of items, and how many
-pub record TellsAll (records : List MetaRecord) (rules : List Rule) (items : List Item) (after : Told) : Type 0 where
+-- the lines of all that rules tell of items, of which a front was sent, and how many
+pub record TellsAll (records : List MetaRecord) (rules : List Rule) (items : List Item) (front : List ℕ) (after : Told) : Type 0 where
   pub told : List Firing
   pub are : AreTold rules [] (samples_of records items) told
-  pub text : after.text.items ≡ firing_lines told
+  pub text : front ++ after.text.items ≡ firing_lines told
   pub count : after.count ≡ length told

@@ -1,18 +1,23 @@
-//! The row of a sample, which rules watch: its numbers by the first names of their metrics and by instance.
+//! The row of a sample, which rules watch: its numbers by the first names of their metrics and by instance. Of a name that no
+//! rule speaks of nothing is copied.
 ghost use Rattle.std.specs.Prelude.{◌≡◌, ◌++◌, [], map, not, bytes_eq, IfOk, IfSome, OnOk};
 ghost use Rattle.std.specs.List.{list_any};
 ghost use Rattle.std.specs.Option.{option_copied};
 ghost use Rattle.std.specs.Ordering.{int_eq};
 ghost use Rattle.archive_meta.specs.Said.{description_of, names_of};
 ghost use Rattle.log_summary.specs.Numbers.{word_number};
+ghost use Rattle.rule_watch.specs.Laws.{watched_row};
+ghost use Rattle.rule_watch.specs.Rules.{is_watched};
+ghost use Rattle.rule_watch.specs.Shown.{rules_of};
 ghost use Rattle.rule_watch.specs.Watched.{AreValues};
 ghost use Rattle.rule_watch.specs.Windows.{IsValue};
-ghost use Rattle.pm_tasks.specs.Rows.{block_pair, entries_with, entry, first_name, first_of, firsts, instances_with, names_with, numbers_of, row_of, row_with, with_name, word_pair};
+ghost use Rattle.pm_tasks.specs.Rows.{block_pair, entries_with, entry, first_of, firsts, if_watched, instances_with, names_with, numbers_of, row_of, row_with, watched_name, with_name, word_pair};
 
 use archive_meta::MetaState;
 use indexmap::IndexSet;
 use log_summary::{block_number, code_of, word_number};
 use pcp_base::{Block, Body, Duplicate, List, NoMemory, Pmid, Text, ValueSet};
+use rule_watch::Watch;
 use std::alloc::Global;
 use std::marker::Model;
 
@@ -162,20 +167,32 @@ fn first_name(meta: &MetaState, pmid: Pmid) -> Option<&Text>
     }
 }
 
-// Puts the numbers of a set behind the others, unless a set before it is of its name.
+// That name, if a rule speaks of it.
+fn watched_name<'a>(meta: &'a MetaState, watch: &Watch, pmid: Pmid) -> Option<&'a Text>
+    ensures { option_copied result ≡ if_watched (is_watched (rules_of watch.now)) (first_of (names_of (description_of pmid meta.now))) }
+{
+    let name = first_name(meta, pmid)?;
+    if !watch.watches(name.as_slice()) {
+        return None;
+    }
+    Some(name)
+}
+
+// Puts the numbers of a set that is watched behind the others, unless a set before it is of its name.
 fn put_set(
     alloc: Global,
     meta: &MetaState,
+    watch: &Watch,
     names: &mut Names,
     row: &mut Row,
     set: &ValueSet,
 ) -> Result<(), NoMemory>
     requires values { AreValues row.old }
-    ensures names { OnOk result (names.new ≡ names_with (first_name meta.now set.now) names.old) }
-    ensures row { OnOk result (row.new ≡ row_with meta.now set.now (first_name meta.now set.now) names.old row.old) }
+    ensures names { OnOk result (names.new ≡ names_with (watched_name (is_watched (rules_of watch.now)) meta.now set.now) names.old) }
+    ensures row { OnOk result (row.new ≡ row_with meta.now set.now (watched_name (is_watched (rules_of watch.now)) meta.now set.now) names.old row.old) }
     ensures values { OnOk result (AreValues row.new) }
 {
-    let Some(name) = first_name(meta, set.pmid) else {
+    let Some(name) = watched_name(meta, watch, set.pmid) else {
         return Ok(());
     };
     if !names.add(alloc, name.as_slice())? {
@@ -184,15 +201,20 @@ fn put_set(
     put_body(alloc, row, name, code_of(meta, set.pmid), &set.body)
 }
 
-/// The row of a sample's sets.
-pub(crate) fn row_of(alloc: Global, meta: &MetaState, sets: &[ValueSet]) -> Result<Row, NoMemory>
-    ensures row { IfOk result (λ row. row ≡ row_of meta.now sets.now) }
+/// The row of a sample's sets, without the values of names that aren't watched.
+pub(crate) fn row_of(
+    alloc: Global,
+    meta: &MetaState,
+    watch: &Watch,
+    sets: &[ValueSet],
+) -> Result<Row, NoMemory>
+    ensures row { IfOk result (λ row. row ≡ watched_row (rules_of watch.now) (row_of meta.now sets.now)) }
     ensures values { IfOk result AreValues }
 {
     let mut names = Names::none(alloc);
     let mut row = List::empty(alloc);
     for set in sets {
-        put_set(alloc, meta, &mut names, &mut row, set)?;
+        put_set(alloc, meta, watch, &mut names, &mut row, set)?;
     }
     Ok(row)
 }

@@ -73,8 +73,8 @@ fn put_next<D: Disk>(
     }
 }
 
-// Writes the page once it is full, unless the sink has failed before.
-fn turn_page<O: Sink>(out: &mut O, failed: &mut bool, page: &mut Vec<u8>)
+/// Writes the page once it is full, unless the sink has failed before.
+pub(crate) fn turn_page<O: Sink>(out: &mut O, failed: &mut bool, page: &mut Vec<u8>)
     ensures { Turns (sink_side O.Sink out.old out.new) failed.old failed.new page.old.items page.new.items }
 {
     let is_full = page.len() >= FULL_PAGE;

@@ -1,5 +1,5 @@
 //! The command `watch SEC USEC SEC USEC`: which rules hold at the samples between two moments.
-ghost use Rattle.std.specs.Prelude.{◌≡◌, ◌++◌, ◌∷◌, [], codes, None, IfOk, IfErr, OnOk};
+ghost use Rattle.std.specs.Prelude.{◌≡◌, ◌++◌, ◌∷◌, [], codes, false, None, IfOk, IfErr, OnOk, OnErr};
 ghost use Rattle.pcp_model.specs.Disk.{contents_of};
 ghost use Rattle.pcp_model.specs.Payload.{stamp_of};
 ghost use Rattle.archive_loading.specs.Loaded.{IsOver};
@@ -7,26 +7,28 @@ ghost use Rattle.archive_loading.specs.Looks.{Looks};
 ghost use Rattle.archive_reader.specs.Searches.{is_after, is_before};
 ghost use Rattle.text_lines.specs.Spelling.{one_number};
 ghost use Rattle.rule_watch.specs.Shown.{Shows, rules_of};
-ghost use Rattle.pm_words.specs.Serving.{Meets};
-ghost use Rattle.pm_words.specs.Sides.{disk_side, files_found};
+ghost use Rattle.pcp_outside.specs.Sides.{sink_side};
+ghost use Rattle.pm_words.specs.Serving.{MeetsSending};
+ghost use Rattle.pm_words.specs.Sides.{disk_side};
 ghost use Rattle.pm_tasks.specs.Archives.{TurnedAway};
 ghost use Rattle.pm_tasks.specs.Telling.{TellsBetween, TellsItem, TellsMore, TellsRow, firing_line, firings_of, is_outside, label_of, with_firing};
 ghost use Rattle.pm_tasks.specs.Rows.{row_of};
 ghost use Rattle.pm_tasks.specs.commands.dump.{BadNext, BadRecord, IsTurnedAway};
-ghost use Rattle.pm_tasks.specs.commands.watch.{HasTold, WatchesAll, WatchesNext, refusal_of, watch as meaning_of_watch};
+ghost use Rattle.pm_tasks.specs.commands.watch.{HasSaid, HasSentAll, HasSentSome, HasStopped, WatchesNext, refusal_of, watch as meaning_of_watch};
 
+use crate::commands::dump::turn_page;
 use crate::rows::row_of;
 use archive_meta::MetaState;
 use archive_reader::{ArchiveReader, Place};
 use pcp_base::{Bytes, Item, List, NoMemory, PmResult, Stamp};
-use pcp_outside::Disk;
+use pcp_outside::{Disk, Sink};
 use pm_print::put_stamp;
 use pm_words::Refusal;
 use rule_watch::{ReadRulesError, Rules, Watch};
 use std::alloc::Global;
 use text_lines::put_one_number;
 
-// The lines that were told, and how many.
+// The lines that were told and not sent, and how many were told.
 #[derive(Drop)]
 struct Told {
     text: Vec<u8>,
@@ -85,7 +87,7 @@ fn tell_sample(
 ) -> Result<(), NoMemory>
     ensures { OnOk result (TellsRow sample.now.stamp (row_of meta.now sample.now.sets) watch.old watch.new told.old told.new) }
 {
-    let row = row_of(alloc, meta, sample.sets.as_slice())?;
+    let row = row_of(alloc, meta, watch, sample.sets.as_slice())?;
     let numbers = watch.push(alloc, &row)?;
     tell_rules(told, watch, sample.stamp, numbers.as_slice())
 }
@@ -178,21 +180,25 @@ fn watch_next<D: Disk>(
     }
 }
 
-// Watches all items, to the end.
-fn watch_all<D: Disk>(
+// Watches all items, to the end; what fills pages is written.
+fn watch_all<O: Sink, D: Disk>(
     alloc: Global,
     disk: &mut D,
     reader: &mut ArchiveReader,
+    out: &mut O,
+    failed: &mut bool,
     watch: &mut Watch,
     told: &mut Told,
     from: Stamp,
     to: Stamp,
 ) -> Result<(), Refusal>
     requires over { D.tells → IsOver (contents_of (D.held disk.old)) reader.old }
+    requires fresh { failed.old ≡ false }
     requires shows { Shows watch.old [] }
     requires text { told.old.text.items ≡ [] }
     requires count { told.old.count ≡ 0 }
-    ensures told { D.tells → OnOk result (WatchesAll (contents_of (D.held disk.old)) reader.old (rules_of watch.old) from to told.new) }
+    ensures told { OnOk result (HasSentAll D.tells (contents_of (D.held disk.old)) reader.old (rules_of watch.old) from to (sink_side O.Sink out.old out.new) failed.new told.new) }
+    ensures stops { OnErr result (HasSentSome D.tells (contents_of (D.held disk.old)) reader.old (rules_of watch.old) from to (sink_side O.Sink out.old out.new) failed.new) }
     ensures turned { IfErr result (TurnedAway (BadRecord reader.old) (disk_side D.Disk disk.old disk.new)) }
     ensures looks { Looks D.Disk disk.old disk.new }
     ensures quiet { OnOk result (D.faults disk.new ≡ D.faults disk.old) }
@@ -203,11 +209,12 @@ fn watch_all<D: Disk>(
         if !more {
             return Ok(());
         }
+        turn_page(out, failed, &mut told.text);
     }
     Err(Refusal::NoMemory)
 }
 
-// The lines that were told, and last how many.
+// The lines that wait, and last how many were told.
 fn told_text(told: Told) -> Result<Bytes, NoMemory>
     ensures { IfOk result (λ text. text ≡ told.text.items ++ one_number (codes "fired") told.count) }
 {
@@ -216,15 +223,19 @@ fn told_text(told: Told) -> Result<Bytes, NoMemory>
     Ok(List::from_vec(text))
 }
 
-// What rules tell of the items of an archive between two moments, as text.
-fn watch_archive<D: Disk>(
+// What rules tell of the items of an archive between two moments, as text; what fills pages is written, and the rest is answered.
+fn watch_archive<O: Sink, D: Disk>(
     alloc: Global,
+    out: &mut O,
+    failed: &mut bool,
     from: Stamp,
     to: Stamp,
     rules: Rules,
     disk: &mut D,
 ) -> Result<Bytes, Refusal>
-    ensures said { D.tells → IfOk result (HasTold from to rules (files_found (disk_side D.Disk disk.old disk.new))) }
+    requires { failed.old ≡ false }
+    ensures said { IfOk result (HasSaid from to rules (sink_side O.Sink out.old out.new) failed.new (disk_side D.Disk disk.old disk.new)) }
+    ensures stops { OnErr result (HasStopped from to rules (sink_side O.Sink out.old out.new) failed.new (disk_side D.Disk disk.old disk.new)) }
     ensures turned { IfErr result (TurnedAway IsTurnedAway (disk_side D.Disk disk.old disk.new)) }
     ensures looks { Looks D.Disk disk.old disk.new }
     ensures quiet { OnOk result (D.faults disk.new ≡ D.faults disk.old) }
@@ -235,7 +246,17 @@ fn watch_archive<D: Disk>(
         text: Vec::new(alloc),
         count: 0,
     };
-    watch_all(alloc, disk, &mut reader, &mut watch, &mut told, from, to)?;
+    watch_all(
+        alloc,
+        disk,
+        &mut reader,
+        out,
+        failed,
+        &mut watch,
+        &mut told,
+        from,
+        to,
+    )?;
     let text = told_text(told)?;
     Ok(text)
 }
@@ -251,18 +272,22 @@ fn refusal_of(error: ReadRulesError) -> Refusal
 }
 
 /// Which rules of a text hold at each sample between two moments: a line for each, and last how many. The archive is read item by
-/// item, and only the values of the rules' windows are kept.
-pub fn watch<D: Disk>(
+/// item, and only the values of the rules' windows are kept. The lines are written as they are told, some 64 KiB at a time, and the
+/// rest is answered.
+pub fn watch<O: Sink, D: Disk>(
     alloc: Global,
+    out: &mut O,
+    failed: &mut bool,
     from: Stamp,
     to: Stamp,
     input: &[u8],
     disk: &mut D,
 ) -> Result<Bytes, Refusal>
-    ensures meets { Meets (meaning_of_watch from to) input.now D.Disk disk.old disk.new None [] result }
+    requires { failed.old ≡ false }
+    ensures meets { MeetsSending (sink_side O.Sink out.old out.new) failed.new (meaning_of_watch from to) input.now D.Disk disk.old disk.new None result }
 {
     match Rules::read(alloc, input) {
-        Ok(rules) => watch_archive(alloc, from, to, rules, disk),
+        Ok(rules) => watch_archive(alloc, out, failed, from, to, rules, disk),
         Err(error) => Err(refusal_of(error)),
     }
 }

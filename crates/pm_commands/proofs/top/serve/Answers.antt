@@ -39,7 +39,7 @@ pub returns-in-Range : goal.returns-in-Range
 returns-in-Range g c = record { meets = without_regions g.O.Sink c.args.out.now c.args.failed.now c.requires.fresh c.args.input.now g.D.Disk c.args.disk.now c.range.new.disk c.args.opened.now c.range.result _ c.args.command.now c.in-Range.is c.requires.closed (c.range.ensures.meets c.args.input.now) }
 
 pub returns-in-Watch : goal.returns-in-Watch
-returns-in-Watch g c = record { meets = without_regions g.O.Sink c.args.out.now c.args.failed.now c.requires.fresh c.args.input.now g.D.Disk c.args.disk.now c.watch.new.disk c.args.opened.now c.watch.result _ c.args.command.now c.in-Watch.is c.requires.closed c.watch.ensures.meets }
+returns-in-Watch g c = record { meets = sending (sink_side g.O.Sink c.args.out.now c.watch.new.out) c.watch.new.failed c.args.input.now g.D.Disk c.args.disk.now c.watch.new.disk c.args.opened.now _ c.watch.result _ c.args.command.now c.in-Watch.is c.requires.closed c.watch.ensures.meets }
 
 pub returns-in-Value : goal.returns-in-Value
 returns-in-Value g c = record { meets = without_regions g.O.Sink c.args.out.now c.args.failed.now c.requires.fresh c.args.input.now g.D.Disk c.args.disk.now c.value.new.disk c.args.opened.now c.value.result _ c.args.command.now c.in-Value.is c.requires.closed (c.value.ensures.meets c.args.input.now) }
