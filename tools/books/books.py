@@ -1,10 +1,11 @@
 #!/usr/bin/env python3
-"""Runs books of cases about merges and summaries by the built program, over real files.
+"""Runs books of cases about merges, summaries and exports by the built program, over real files.
 
-usage: books.py PROGRAM [BOOK..]                BOOK: extracts.cases and summaries.cases beside this script, unless given
+usage: books.py PROGRAM [BOOK..]                BOOK: extracts.cases, summaries.cases and exports.cases beside this script, unless given
 
 A book has the form of those in crates/cases/data. Words: `before FILE LITERAL`, `first` or `second` before it for a source of `extract`, `source K` (what
-stands becomes that source's), `run WORDS`, `extract WORDS`, `summary WORDS`, and what must come of it: `status`, `out`, `file`, `files`. A file that
+stands becomes that source's), `run WORDS`, `extract WORDS`, `summary WORDS`, `export WORDS` (the first source is exported), and what must come of it:
+`status`, `out`, `file`, `files`. A file that
 changed, or output that came and isn't named, differs, and so does a source that changed. Prints each case that differs, and a line for each book; the
 exit status is 1 where one differs. Expected values are worked out by hand.
 """
@@ -71,12 +72,12 @@ def do(case):
     inp = b''
     def end():
         if state['out'] or state['changed']: return 'left: %r %r' % (state['out'][:200], state['changed'])
-    def run(words, inp=b''):
+    def run(words, inp=b'', base='out'):
         e = end()
         if e: return e
         real = {k: files_at(x) for k, x in d.items()}
         state['before'] = real['out']
-        p = subprocess.run([PCP, os.path.join(d['out'], 'a')] + words, input=inp, capture_output=True)
+        p = subprocess.run([PCP, os.path.join(d[base], 'a')] + words, input=inp, capture_output=True)
         state['status'], state['out'] = p.returncode, p.stdout
         now = {k: files_at(x) for k, x in d.items()}
         for k in ('first', 'second'):
@@ -98,6 +99,7 @@ def do(case):
             elif w == 'line': inp += text(r) + b'\n'
             elif w == 'more': inp += literal(r)
             elif w == 'run': e = run(r.split(' ') if r else [], inp)
+            elif w == 'export': e = run(['export', os.path.join(d['out'], 'a')] + (r.split(' ') if r else []), base='first')
             elif w in ('extract', 'summary', 'call'):
                 words = ([w] + r.split(' ') if r else [w]) if w != 'call' else r.split(' ')[1:]
                 if w == 'call' and (not words or words[0] != r.split(' ')[0]): return 'skip'
@@ -146,5 +148,5 @@ if __name__ == "__main__":
         sys.exit(__doc__)
     PCP = os.path.realpath(sys.argv[1])
     beside = os.path.dirname(os.path.realpath(__file__))
-    books = sys.argv[2:] or [os.path.join(beside, name) for name in ("extracts.cases", "summaries.cases")]
+    books = sys.argv[2:] or [os.path.join(beside, name) for name in ("extracts.cases", "summaries.cases", "exports.cases")]
     sys.exit(1 if sum([run_book(book) for book in books]) else 0)

@@ -4,7 +4,7 @@ use pcp_outside::MemSink;
 use pcp_shell::write_help;
 use std::test::Fail;
 
-const LINES: [&str; 20] = [
+const LINES: [&str; 21] = [
     "\n  once SEC USEC FILE ",
     "\n  replay VOLUME ",
     "\n  make NUMBER TICKS VOLUME ",
@@ -12,6 +12,7 @@ const LINES: [&str; 20] = [
     "\n  serve PORT COUNT ",
     "\n  pull PORT SAMPLES VOLUME NAME.. ",
     "\n  extract BASE1 BASE2 VOLUME ",
+    "\n  export BASE2 ",
     "\n  recover ",
     "\n  dump ",
     "\n  at SEC USEC ",

@@ -4,11 +4,13 @@
 
 use pcp_outside::{Free, Sink, Source};
 use pcp_shell::{
-    asks_help, first_bad_behind_port, first_bad_behind_sources, first_bad_of, pull_samples,
-    record_samples, serve_clients, source_of_itself, sources_of, without_sources, write_help,
+    asks_help, first_bad_behind_port, first_bad_behind_sources, first_bad_behind_target,
+    first_bad_of, pull_samples, record_samples, serve_clients, source_of_itself, sources_of,
+    target_of, without_sources, without_target, write_help,
 };
 use pcp_system::{FileDisk, ReaderSource, Screen, WriterSink, open_standard};
 use pm_commands::{Call, Refusal, offline, read_words, writes_archive};
+use pm_exporting::export;
 use pm_extracting::extract;
 use pm_summing::summary;
 use std::alloc::{Alloc, AllocError, Global};
@@ -48,6 +50,7 @@ fn first_bad_word(rt: &(impl Env + Alloc<A = Global>)) -> Result<usize, AllocErr
         Call::Serve => first_bad_behind_port(rt.alloc(), Call::Serve, &words),
         Call::Pull => first_bad_behind_port(rt.alloc(), Call::Pull, &words),
         Call::Extract => first_bad_behind_sources(rt.alloc(), &words),
+        Call::Export => first_bad_behind_target(rt.alloc(), &words),
         call => first_bad_of(rt.alloc(), call, &words),
     }
 }
@@ -210,6 +213,54 @@ fn merge_sources<R: Files<File = File> + Alloc<A = Global>>(
     merge(rt, [base, first, second], &words, out, screen)
 }
 
+// Writes the archive again at another base, and answers the status.
+fn export_to<R: Files<File = File> + Alloc<A = Global>>(
+    rt: &R,
+    base: String,
+    target: String,
+    words: &[String],
+    out: &mut impl Sink,
+    screen: &Screen,
+) -> u8 {
+    let alloc = rt.alloc();
+    let mut source = FileDisk::for_reading(alloc, rt, base);
+    let mut disk = FileDisk::new(alloc, rt, target);
+    match disk.shares_file(&source) {
+        Ok(false) => {}
+        Ok(true) => return usage(alloc, out, 1),
+        Err(_) => return 9,
+    }
+    let status = export(alloc, words, &mut source, out, &mut disk);
+    tell_of(source, screen);
+    tell_of(disk, screen);
+    status
+}
+
+// Writes the archive again at the base that the words name, and answers the status. Where that is missing, or is the archive itself, the command line is
+// faulty, and nothing is touched.
+fn export_archive<R: Files<File = File> + Alloc<A = Global>>(
+    rt: &R,
+    base: String,
+    command: &[String],
+    out: &mut impl Sink,
+    screen: &Screen,
+) -> u8 {
+    let alloc = rt.alloc();
+    let Some(target) = target_of(command) else {
+        return usage(alloc, out, command.len());
+    };
+    if target.as_bytes() == base.as_bytes() {
+        return usage(alloc, out, 1);
+    }
+    let Ok(target) = target.to_string(alloc) else {
+        return 9;
+    };
+    let Ok(words) = without_target(alloc, command) else {
+        return 9;
+    };
+    export_to(rt, base, target, &words, out, screen)
+}
+
 // Closes the files, and then tells why one of them failed.
 fn tell_of<R: Files<File = File>>(disk: FileDisk<'_, R>, screen: &Screen) {
     let why = disk.why();
@@ -252,7 +303,8 @@ fn main(rt: HostRuntime) -> ExitCode {
     let status = match Call::named(command) {
         Call::Serve => serve_clients(&rt, command, &mut input, &mut out),
         Call::Extract => merge_sources(&rt, base, command, &mut out, &screen),
-        Call::Offline | Call::Record | Call::Pull | Call::Summary | Call::Export => {
+        Call::Export => export_archive(&rt, base, command, &mut out, &screen),
+        Call::Offline | Call::Record | Call::Pull | Call::Summary => {
             archive(&rt, base, command, &mut input, &mut out, &screen)
         }
     };

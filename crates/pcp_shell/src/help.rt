@@ -13,7 +13,7 @@ const ENDING: &str =
     "BASE begins the names of the archive's files: BASE.meta, BASE.index, BASE.0 and so on.";
 
 // Each command with its words, and what it does.
-const COMMANDS: [(&str, &str); 20] = [
+const COMMANDS: [(&str, &str); 21] = [
     (
         "once SEC USEC FILE",
         "Log the values of an image as one result",
@@ -38,6 +38,10 @@ const COMMANDS: [(&str, &str); 20] = [
     (
         "extract BASE1 BASE2 VOLUME",
         "Log the merge of two other archives",
+    ),
+    (
+        "export BASE2",
+        "Write an archive again at another base, as stock tools show it whole",
     ),
     ("recover", "Mend an archive that was stopped anywhere"),
     ("dump", "Print the label and all items of an archive"),

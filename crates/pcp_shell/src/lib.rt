@@ -1,5 +1,5 @@
 //! The program's own rooms: the help that it prints (`help`), which word of a command line is bad (`bad_words`), PORT (`ports`), the two sources
-//! of `extract` (`sources`), the listener of `serve` (`listening`), the second and the terminal of `record` (`recording`), and with these the
+//! of `extract` and the place of `export` (`sources`), the listener of `serve` (`listening`), the second and the terminal of `record` (`recording`), and with these the
 //! connection of `pull` (`pulling`). Only pcp and tests use them.
 #![tactic(auto)]
 
@@ -18,4 +18,7 @@ pub use listening::serve_clients;
 pub use ports::first_bad_behind_port;
 pub use pulling::pull_samples;
 pub use recording::record_samples;
-pub use sources::{first_bad_behind_sources, source_of_itself, sources_of, without_sources};
+pub use sources::{
+    first_bad_behind_sources, first_bad_behind_target, source_of_itself, sources_of, target_of,
+    without_sources, without_target,
+};

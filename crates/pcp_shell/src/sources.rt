@@ -1,6 +1,7 @@
-//! BASE1 and BASE2, which stand behind the first word of `extract`, are the program's: the archives that are merged. They aren't handed on.
+//! BASE1 and BASE2, which stand behind the first word of `extract`, are the program's: the archives that are merged. So is BASE2 behind `export`: where an
+//! archive comes to stand. They aren't handed on.
 ghost use Rattle.std.specs.Prelude.{◌≡◌, ◌⊎◌, IfOk, IfSome, map, option_map, string_bytes};
-ghost use Rattle.pcp_shell.specs.Sources.{sources_of};
+ghost use Rattle.pcp_shell.specs.Sources.{sources_of, target_of};
 
 use crate::bad_words::first_bad_of;
 use pcp_system::FileDisk;
@@ -54,4 +55,35 @@ pub fn source_of_itself<'a, R: Files<File = File>>(
         return Ok(Some(2));
     }
     Ok(None)
+}
+
+/// The base of the archive that an export writes, where it is there.
+pub fn target_of(words: &[String]) -> Option<&String>
+    ensures { option_map (λ target. string_bytes target.now) result ≡ target_of (map string_bytes words.now) }
+{
+    match words {
+        [_, target, ..] => Some(target),
+        _ => None,
+    }
+}
+
+/// The words without that base, as the command's call takes them.
+pub fn without_target(alloc: Global, words: &[String]) -> Result<Vec<String>, AllocError> {
+    let mut rest = Vec::new(alloc);
+    for (at, word) in words.iter().enumerate() {
+        if at != 1 {
+            rest.push(word.to_string(alloc)?)?;
+        }
+    }
+    Ok(rest)
+}
+
+/// Which word is the first bad one that `export` is given, where the word behind these isn't UTF-8: that word, where it is the base; else the base isn't
+/// counted.
+pub fn first_bad_behind_target(alloc: Global, words: &[String]) -> Result<usize, AllocError> {
+    if target_of(words).is_none() {
+        return Ok(words.len());
+    }
+    let rest = without_target(alloc, words)?;
+    first_bad_of(alloc, Call::Export, &rest)
 }

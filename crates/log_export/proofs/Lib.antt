@@ -1,0 +1,10 @@
+pub mod Exports
+pub mod Halting
+pub mod Laid
+pub mod Mended
+pub mod Occupied
+pub mod Outcome
+pub mod Pieces
+pub mod Planned
+pub mod Plans
+pub mod Read

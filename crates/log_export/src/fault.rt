@@ -1,0 +1,57 @@
+//! Why an archive isn't exported.
+ghost use Rattle.std.specs.Prelude.{◌≡◌};
+ghost use Rattle.archive_reader.specs.declared.fault.ReaderFault.TheVariants as reads;
+ghost use Rattle.archive_reader.specs.Lacks.{of_lack};
+ghost use Rattle.log_export.specs.declared.fault.ExportFault.TheVariants.{DiskFault, Source};
+
+use archive_loading::Lack;
+use archive_reader::ReaderFault;
+use pcp_base::NoMemory;
+use pcp_outside::{Failed, FileId};
+use thiserror::Error;
+
+/// Why an archive isn't exported.
+#[derive(Clone, Copy, Debug, PartialEq, Eq, Error)]
+pub enum ExportFault {
+    /// The file stands where the archive is to come to stand, under its name or under that with `.xz` or `.gz` added.
+    #[error("a file stands there")]
+    Stands { file: FileId },
+    /// The source isn't read, or it failed later, while it was copied. Want of memory is told so too; nothing is written then.
+    #[error("the source isn't read")]
+    Source(ReaderFault),
+    /// The disk that is written failed.
+    #[error("the disk failed")]
+    DiskFault,
+}
+
+impl From<Failed> for ExportFault {
+    ghost from_gives = { λ _ e. e ≡ DiskFault };
+
+    fn from(_error: Failed) -> ExportFault {
+        ExportFault::DiskFault
+    }
+}
+
+impl From<ReaderFault> for ExportFault {
+    ghost from_gives = { λ fault e. e ≡ Source fault };
+
+    fn from(fault: ReaderFault) -> ExportFault {
+        ExportFault::Source(fault)
+    }
+}
+
+impl From<Lack> for ExportFault {
+    ghost from_gives = { λ lack e. e ≡ Source (of_lack lack) };
+
+    fn from(lack: Lack) -> ExportFault {
+        ExportFault::Source(ReaderFault::from(lack))
+    }
+}
+
+impl From<NoMemory> for ExportFault {
+    ghost from_gives = { λ _ e. e ≡ Source reads.NoMemory };
+
+    fn from(_error: NoMemory) -> ExportFault {
+        ExportFault::Source(ReaderFault::NoMemory)
+    }
+}
