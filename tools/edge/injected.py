@@ -3,8 +3,9 @@
 usage: injected.py PROGRAM
 
 Each run either is whole (status 0, and files as without a failure) or told (another status of the program's own), and after a
-recovery the items are those from before and a front of the run's: as many as the command says after status 0. It prints a line for each command
-and call, and takes some minutes."""
+recovery the items are those from before and a front of the run's: as many as the command says after status 0. `export` leaves its source as it
+was, and at the other base a beginning of each file, with no byte of Meta before the others are whole. It prints a line for each command and call,
+and takes some minutes."""
 import os, re, subprocess, sys, tempfile
 from concurrent.futures import ThreadPoolExecutor
 
@@ -36,6 +37,7 @@ COMMANDS = [
     (("make", "7", "6", "1048576"), b"", ("none",)),
     (("recover",), b"", ("old", "torn")),
     (("record", "2", "1048576"), SCRIPT, ("none", "old")),
+    (("export", "other"), b"", ("old", "torn")),
 ]
 
 
@@ -74,11 +76,22 @@ def acknowledged(said, before):
     return int(number) + (len(before) if word == b"logged" else 0)
 
 
+def files_of(folder, base):
+    """The files of an archive that hold something, by what stands behind the base's name."""
+    found = {}
+    for name in os.listdir(folder):
+        if name.startswith(base + "."):
+            with open(os.path.join(folder, name), "rb") as it:
+                found[name[len(base) + 1 :]] = it.read()
+    return {name: data for name, data in found.items() if data}
+
+
 def calls_of(words, given, state):
-    """Each system call of main with its number among the calls of that name, and what stands without a failure."""
+    """Each system call of main with its number among the calls of that name, what stood before, and what stands without a failure."""
+    is_export = words[0] == "export"
     with tempfile.TemporaryDirectory() as folder:
         prepare(folder, state)
-        before = lines_of(folder) if state != "none" else []
+        before = files_of(folder, "arch") if is_export else lines_of(folder) if state != "none" else []
         log = os.path.join(folder, "log")
         status, _ = run(folder, words, given, ("strace", "-f", "-o", log))
         assert status == 0, (words, state, status)
@@ -93,7 +106,26 @@ def calls_of(words, given, state):
                 begun = begun or FIRST in line
                 if begun and name not in LEFT_OUT:
                     calls.append((name, counts[name]))
-        return calls, before, lines_of(folder)
+        return calls, before, files_of(folder, "other") if is_export else lines_of(folder)
+
+
+def tried_export(words, given, state, call, number, error, before, after):
+    """One export with one failure: how it ended, and what is wrong."""
+    with tempfile.TemporaryDirectory() as folder:
+        prepare(folder, state)
+        status, _ = run(folder, words, given, ("strace", "-f", "-o", "/dev/null", "-e", f"inject={call}:error={error}:when={number}"))
+        made, wrong = files_of(folder, "other"), ""
+        if files_of(folder, "arch") != before:
+            wrong = "the source isn't as it was"
+        elif not all(after.get(name, b"").startswith(data) for name, data in made.items()):
+            wrong = "something else stands there"
+        elif "meta" in made and {**made, "meta": after["meta"]} != after:
+            wrong = "Meta stands beside less than the others"
+        elif status == 0 and made != after:
+            wrong = "done, and not whole"
+        elif status not in (0, 4, 5, 9):
+            wrong = f"status {status}"
+        return status, wrong and f"{' '.join(words)} ({state}): {call} {number} {error}: {wrong}"
 
 
 def tried(words, given, state, call, number, error, before, after):
@@ -125,7 +157,8 @@ def main():
         for words, given, states in COMMANDS:
             for state in states:
                 calls, before, after = calls_of(words, given, state)
-                jobs = {(call, number, error): pool.submit(tried, words, given, state, call, number, error, before, after) for call, number in calls for error in ERRORS}
+                one = tried_export if words[0] == "export" else tried
+                jobs = {(call, number, error): pool.submit(one, words, given, state, call, number, error, before, after) for call, number in calls for error in ERRORS}
                 table = {}
                 for (call, _, _), job in jobs.items():
                     status, wrong = job.result()
