@@ -3,7 +3,7 @@ ghost use Rattle.std.specs.Prelude.{◌≡◌, ◌<◌, [], ◌∷◌, fold, len
 ghost use Rattle.std.specs.Option.{option_copied};
 ghost use Rattle.archive_meta.specs.Said.{description_of, desc_of};
 ghost use Rattle.archive_volume.specs.Items.{item_of};
-ghost use Rattle.result_view.specs.Bodies.{as_body};
+ghost use Rattle.result_form.specs.Bodies.{as_body};
 ghost use Rattle.log_summary.specs.declared.tally.Tally.{Tally as Told};
 ghost use Rattle.log_summary.specs.Tables.{Key, joined_to, put, merged, counted};
 ghost use Rattle.log_summary.specs.Tallies.{single};
@@ -14,7 +14,7 @@ use crate::tally::Tally;
 use archive_meta::MetaState;
 use indexmap::IndexMap;
 use pcp_base::{NoMemory, Pmid, Stamp};
-use result_view::{BlocksView, BodyView, ResultView, SetView, SetsView, WordsView};
+use result_form::{BlocksView, BodyView, ResultView, SetView, SetsView, WordsView};
 use std::alloc::Global;
 use std::marker::Model;
 

@@ -14,7 +14,7 @@ use crate::table::Table;
 use archive_frame::{FrameFault, Step, step_forward};
 use archive_meta::MetaState;
 use pcp_base::{NoMemory, Stamp};
-use result_view::ResultView;
+use result_form::ResultView;
 
 // The result that a payload is.
 fn result_of(payload: &[u8]) -> Option<ResultView<'_>>

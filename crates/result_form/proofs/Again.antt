@@ -17,9 +17,7 @@ use Rattle.pcp_model.specs.Words.{word, signed_word}
 use Rattle.pcp_model.specs.Payload.{blocks_in, blocks_of, value_pairs, offset_pairs, body_words, set_words, body_length, sets_length, head_length, result_head, reach, BlocksStand, BodyInRange, SetInRange, IsPayload}
 use Rattle.result_form.specs.declared.fault.FormFault.{FormFault}
 use Rattle.result_form.specs.declared.fault.FormFault.TheVariants.{Short, Stamp, Count, Mode, Trailing}
-use Rattle.result_form.specs.declared.fields.Run.{Run}
-use Rattle.result_form.specs.declared.fields.Counted.{Counted}
-use Rattle.result_form.specs.declared.fields.Counted.TheVariants as counted
+use Rattle.result_form.specs.Counts.{Run, Counted}
 use Rattle.result_form.specs.Decoding.{◌>>=◌, word_at, word_below, stamp_of, run_at, counted_at, run_end, end_of, set_end, sets_end, body_of, set_at, sets_from, payload_result}
 use Rattle.result_form.proofs.Spans.{word_again, behind_word, unsigned_fits, signed_back, word_of_signed, status_word}
 use Rattle.result_form.proofs.Pairs.{values_again, blocks_again}
@@ -54,23 +52,23 @@ three x y z rest = append_assoc x (y ++ z) rest ∙ ap (λ t. x ++ t) (append_as
 
 -- ---- what a set counts
 
-status_again : (bytes : List ℕ) (at : ℕ) (z : ℤ) (rest : List ℕ) → FitsSigned w32 z → z ≤ℤ pos 0 → drop at bytes ≡ signed_word z ++ rest → (counted_at bytes at ≡ Ok (counted.Status z)) × (drop (at + 4) bytes ≡ rest)
+status_again : (bytes : List ℕ) (at : ℕ) (z : ℤ) (rest : List ℕ) → FitsSigned w32 z → z ≤ℤ pos 0 → drop at bytes ≡ signed_word z ++ rest → (counted_at bytes at ≡ Ok (Counted.Status z)) × (drop (at + 4) bytes ≡ rest)
 unfolding counted_at
 status_again bytes at z rest fits low e =
     let n : ℕ = cast_unsigned w32 z in
     let cut : drop at bytes ≡ word n ++ rest = e ∙ ap (λ t. t ++ rest) (word_of_signed z) in
     let read : word_at bytes at ≡ Ok n = word_again bytes at n rest (unsigned_fits z fits) cut in (
-      ap (λ r. r >>= λ m. cond (eqb m 0 || leb 2147483648 m) (Ok (counted.Status (cast_signed w32 m))) (run_at bytes (at + 4) m)) read
-          ∙ holds (eqb n 0 || leb 2147483648 n) (Ok (counted.Status (cast_signed w32 n))) (run_at bytes (at + 4) n) (low_test n (status_word z fits low))
-          ∙ ap (λ s. Ok (counted.Status s)) (signed_back z fits),
+      ap (λ r. r >>= λ m. cond (eqb m 0 || leb 2147483648 m) (Ok (Counted.Status (cast_signed w32 m))) (run_at bytes (at + 4) m)) read
+          ∙ holds (eqb n 0 || leb 2147483648 n) (Ok (Counted.Status (cast_signed w32 n))) (run_at bytes (at + 4) n) (low_test n (status_word z fits low))
+          ∙ ap (λ s. Ok (Counted.Status s)) (signed_back z fits),
       behind_word bytes at (at + 4) n rest refl cut,
     )
 
 count_again : (bytes : List ℕ) (at n : ℕ) (rest : List ℕ) → 0 < n → n < 2147483648 → drop at bytes ≡ word n ++ rest → counted_at bytes at ≡ run_at bytes (at + 4) n
 unfolding counted_at
 count_again bytes at n rest some few e =
-    ap (λ r. r >>= λ m. cond (eqb m 0 || leb 2147483648 m) (Ok (counted.Status (cast_signed w32 m))) (run_at bytes (at + 4) m)) (word_again bytes at n rest (omega arith) e)
-    ∙ fails (eqb n 0 || leb 2147483648 n) (Ok (counted.Status (cast_signed w32 n))) (run_at bytes (at + 4) n) (high_test n some few)
+    ap (λ r. r >>= λ m. cond (eqb m 0 || leb 2147483648 m) (Ok (Counted.Status (cast_signed w32 m))) (run_at bytes (at + 4) m)) (word_again bytes at n rest (omega arith) e)
+    ∙ fails (eqb n 0 || leb 2147483648 n) (Ok (Counted.Status (cast_signed w32 n))) (run_at bytes (at + 4) n) (high_test n some few)
 
 abbrev run_made : ℕ → ℕ → Run
 run_made from n = record { from = from; count = n }
@@ -78,17 +76,17 @@ run_made from n = record { from = from; count = n }
 abbrev run_of : ℕ → ℕ → Run
 run_of at n = run_made (at + 8) n
 
-values_run : (bytes : List ℕ) (at n : ℕ) (rest : List ℕ) → drop (at + 4) bytes ≡ word 0 ++ rest → run_at bytes (at + 4) n ≡ Ok (counted.InPlace (run_of at n))
+values_run : (bytes : List ℕ) (at n : ℕ) (rest : List ℕ) → drop (at + 4) bytes ≡ word 0 ++ rest → run_at bytes (at + 4) n ≡ Ok (Counted.InPlace (run_of at n))
 unfolding run_at
 values_run bytes at n rest e =
-    ap (λ r. r >>= λ mode. cond (eqb mode 0) (Ok (counted.InPlace (run_made (at + 4 + 4) n))) (cond (eqb mode 1) (Ok (counted.Blocks (run_made (at + 4 + 4) n))) (Err (Mode (at + 4))))) (word_again bytes (at + 4) 0 rest (omega arith) e)
-    ∙ ap (λ f. Ok (counted.InPlace (run_made f n))) (let h : at + 4 + 4 ≡ at + 8 = omega arith in h)
+    ap (λ r. r >>= λ mode. cond (eqb mode 0) (Ok (Counted.InPlace (run_made (at + 4 + 4) n))) (cond (eqb mode 1) (Ok (Counted.Blocks (run_made (at + 4 + 4) n))) (Err (Mode (at + 4))))) (word_again bytes (at + 4) 0 rest (omega arith) e)
+    ∙ ap (λ f. Ok (Counted.InPlace (run_made f n))) (let h : at + 4 + 4 ≡ at + 8 = omega arith in h)
 
-blocks_run : (bytes : List ℕ) (at n : ℕ) (rest : List ℕ) → drop (at + 4) bytes ≡ word 1 ++ rest → run_at bytes (at + 4) n ≡ Ok (counted.Blocks (run_of at n))
+blocks_run : (bytes : List ℕ) (at n : ℕ) (rest : List ℕ) → drop (at + 4) bytes ≡ word 1 ++ rest → run_at bytes (at + 4) n ≡ Ok (Counted.Blocks (run_of at n))
 unfolding run_at
 blocks_run bytes at n rest e =
-    ap (λ r. r >>= λ mode. cond (eqb mode 0) (Ok (counted.InPlace (run_made (at + 4 + 4) n))) (cond (eqb mode 1) (Ok (counted.Blocks (run_made (at + 4 + 4) n))) (Err (Mode (at + 4))))) (word_again bytes (at + 4) 1 rest (omega arith) e)
-    ∙ ap (λ f. Ok (counted.Blocks (run_made f n))) (let h : at + 4 + 4 ≡ at + 8 = omega arith in h)
+    ap (λ r. r >>= λ mode. cond (eqb mode 0) (Ok (Counted.InPlace (run_made (at + 4 + 4) n))) (cond (eqb mode 1) (Ok (Counted.Blocks (run_made (at + 4 + 4) n))) (Err (Mode (at + 4))))) (word_again bytes (at + 4) 1 rest (omega arith) e)
+    ∙ ap (λ f. Ok (Counted.Blocks (run_made f n))) (let h : at + 4 + 4 ≡ at + 8 = omega arith in h)
 
 run_ends : (bytes : List ℕ) (at n : ℕ) → at + 8 + 8 * n ≤ length bytes → run_end bytes (run_of at n) ≡ Ok (at + (8 + 8 * n))
 run_ends bytes at n room =
@@ -123,7 +121,7 @@ unfolding body_of
 body_again bytes end reached at (bodies.Status z) offsets more rest fits content range stand within e =
     let s = status_again bytes at z rest range content e in
     record {
-      what = counted.Status z;
+      what = Counted.Status z;
       counts = s.0;
       furthest = reached;
       read = refl;
@@ -143,7 +141,7 @@ body_again bytes end reached at (bodies.InPlace pairs) offsets more rest fits co
     let room2 : at + 4 + 4 ≤ length bytes = word_room bytes (at + 4) 0 (value_pairs pairs ++ rest) room1 cut2 in
     let q = values_again bytes (at + 8) pairs rest range.1 (omega arith) cut3 in
     record {
-      what = counted.InPlace (run_of at n);
+      what = Counted.InPlace (run_of at n);
       counts = count_again bytes at n (word 0 ++ (value_pairs pairs ++ rest)) content range.0 cut ∙ values_run bytes at n (value_pairs pairs ++ rest) cut2;
       furthest = reached;
       read = ap (λ r. r >>= λ ps. Ok (bodies.InPlace ps, reached)) q.0;
@@ -164,7 +162,7 @@ body_again bytes end reached at (bodies.Blocks pairs) offsets more rest fits con
     let room2 : at + 4 + 4 ≤ length bytes = word_room bytes (at + 4) 1 (text ++ rest) room1 cut2 in
     let q = blocks_again bytes end reached (at + 8) pairs offsets more rest fits range.1 stand (omega arith) cut3 in
     record {
-      what = counted.Blocks (run_of at n);
+      what = Counted.Blocks (run_of at n);
       counts = count_again bytes at n (word 1 ++ (text ++ rest)) content range.0 cut ∙ blocks_run bytes at n (text ++ rest) cut2;
       furthest = q.end;
       read = ap (λ r. r >>= λ ps. Ok (bodies.Blocks ps.0, ps.1)) q.read;

@@ -7,9 +7,7 @@ use Rattle.pcp_base.specs.Fields.{number_at}
 use Rattle.pcp_base.specs.Typed.{TypedBytes}
 use Rattle.result_form.specs.declared.fault.FormFault.{FormFault}
 use Rattle.result_form.specs.declared.fault.FormFault.TheVariants.{Short, Mode, Offset, Block}
-use Rattle.result_form.specs.declared.fields.Run.{Run}
-use Rattle.result_form.specs.declared.fields.Counted.{Counted}
-use Rattle.result_form.specs.declared.fields.Counted.TheVariants as counted
+use Rattle.result_form.specs.Counts.{Run, Counted}
 use Rattle.result_form.specs.Decoding.{◌>>=◌, or_short, word_at, word_below, run_at, counted_at, run_end, end_of, set_end, pair_at, block_of_head, padded_size, block_at, offset_block, offset_pair}
 use Rattle.result_form.specs.Faults.{IsStatus, HasValues, HasMode, pairs_end, block_begin, block_end, LeadsIn, IsWhole}
 use Rattle.result_form.proofs.Again.{low_test, high_test}
@@ -56,20 +54,20 @@ module _ (bytes : List ℕ) (at : ℕ) where
   metric_stands h = ap (λ r. r >>= λ pmid. behind (counted_at bytes (at + 4))) (word_stands bytes at h)
 
   abbrev counts : Result ℕ FormFault → Result Counted FormFault
-  counts r = r >>= λ m. cond (eqb m 0 || leb 2147483648 m) (Ok (counted.Status (cast_signed w32 m))) (run_at bytes (at + 4 + 4) m)
+  counts r = r >>= λ m. cond (eqb m 0 || leb 2147483648 m) (Ok (Counted.Status (cast_signed w32 m))) (run_at bytes (at + 4 + 4) m)
 
   pub ends_in_number : at + 4 ≤ length bytes → length bytes < at + 8 → set_end bytes at ≡ Err (Short (at + 4))
   unfolding counted_at
   ends_in_number h g = metric_stands h ∙ ap (λ r. behind (counts r)) (word_ends bytes (at + 4) (omega arith))
 
-  number_stands : at + 8 ≤ length bytes → counted_at bytes (at + 4) ≡ cond (eqb (number_at bytes (at + 4)) 0 || leb 2147483648 (number_at bytes (at + 4))) (Ok (counted.Status (cast_signed w32 (number_at bytes (at + 4))))) (run_at bytes (at + 4 + 4) (number_at bytes (at + 4)))
+  number_stands : at + 8 ≤ length bytes → counted_at bytes (at + 4) ≡ cond (eqb (number_at bytes (at + 4)) 0 || leb 2147483648 (number_at bytes (at + 4))) (Ok (Counted.Status (cast_signed w32 (number_at bytes (at + 4))))) (run_at bytes (at + 4 + 4) (number_at bytes (at + 4)))
   unfolding counted_at
   number_stands h = ap counts (word_stands bytes (at + 4) (omega arith))
 
-  pub counts_status : at + 8 ≤ length bytes → IsStatus (number_at bytes (at + 4)) → counted_at bytes (at + 4) ≡ Ok (counted.Status (cast_signed w32 (number_at bytes (at + 4))))
+  pub counts_status : at + 8 ≤ length bytes → IsStatus (number_at bytes (at + 4)) → counted_at bytes (at + 4) ≡ Ok (Counted.Status (cast_signed w32 (number_at bytes (at + 4))))
   counts_status h s =
       number_stands h
-      ∙ ap (λ b. cond b (Ok (counted.Status (cast_signed w32 (number_at bytes (at + 4))))) (run_at bytes (at + 4 + 4) (number_at bytes (at + 4)))) (low_test (number_at bytes (at + 4)) s)
+      ∙ ap (λ b. cond b (Ok (Counted.Status (cast_signed w32 (number_at bytes (at + 4))))) (run_at bytes (at + 4 + 4) (number_at bytes (at + 4)))) (low_test (number_at bytes (at + 4)) s)
 
   pub is_status : at + 8 ≤ length bytes → IsStatus (number_at bytes (at + 4)) → set_end bytes at ≡ Ok (at + 8)
   is_status h s = metric_stands (omega arith) ∙ ap behind (counts_status h s) ∙ ap done (let e : at + 4 + 4 ≡ at + 8 = omega arith in e)
@@ -77,7 +75,7 @@ module _ (bytes : List ℕ) (at : ℕ) where
   counts_values : HasValues bytes at → counted_at bytes (at + 4) ≡ run_at bytes (at + 4 + 4) (number_at bytes (at + 4))
   counts_values v =
       number_stands v.0
-      ∙ ap (λ b. cond b (Ok (counted.Status (cast_signed w32 (number_at bytes (at + 4))))) (run_at bytes (at + 4 + 4) (number_at bytes (at + 4)))) (high_test (number_at bytes (at + 4)) v.1 v.2)
+      ∙ ap (λ b. cond b (Ok (Counted.Status (cast_signed w32 (number_at bytes (at + 4))))) (run_at bytes (at + 4 + 4) (number_at bytes (at + 4)))) (high_test (number_at bytes (at + 4)) v.1 v.2)
 
   has_values : HasValues bytes at → set_end bytes at ≡ behind (run_at bytes (at + 4 + 4) (number_at bytes (at + 4)))
   has_values v = metric_stands (let h : at + 8 ≤ length bytes = v.0 in omega arith) ∙ ap behind (counts_values v)
@@ -86,7 +84,7 @@ module _ (bytes : List ℕ) (at : ℕ) where
   run_made m = record { from = at + 4 + 4 + 4; count = m }
 
   abbrev modes : ℕ → Result ℕ FormFault → Result Counted FormFault
-  modes m r = r >>= λ mode. cond (eqb mode 0) (Ok (counted.InPlace (run_made m))) (cond (eqb mode 1) (Ok (counted.Blocks (run_made m))) (Err (Mode (at + 4 + 4))))
+  modes m r = r >>= λ mode. cond (eqb mode 0) (Ok (Counted.InPlace (run_made m))) (cond (eqb mode 1) (Ok (Counted.Blocks (run_made m))) (Err (Mode (at + 4 + 4))))
 
   same_eight : at + 4 + 4 ≡ at + 8
   same_eight = omega arith
@@ -103,10 +101,10 @@ module _ (bytes : List ℕ) (at : ℕ) where
       ap (modes (number_at bytes (at + 4))) (word_stands bytes (at + 4 + 4) (omega arith))
       ∙ ap (λ k. modes (number_at bytes (at + 4)) (Ok (number_at bytes k))) same_eight
 
-  pub counts_in_place : HasValues bytes at → at + 12 ≤ length bytes → number_at bytes (at + 8) ≡ 0 → counted_at bytes (at + 4) ≡ Ok (counted.InPlace (run_made (number_at bytes (at + 4))))
+  pub counts_in_place : HasValues bytes at → at + 12 ≤ length bytes → number_at bytes (at + 8) ≡ 0 → counted_at bytes (at + 4) ≡ Ok (Counted.InPlace (run_made (number_at bytes (at + 4))))
   counts_in_place v h e = counts_values v ∙ mode_read h ∙ ap (λ m. modes (number_at bytes (at + 4)) (Ok m)) e
 
-  pub counts_blocks : HasValues bytes at → at + 12 ≤ length bytes → number_at bytes (at + 8) ≡ 1 → counted_at bytes (at + 4) ≡ Ok (counted.Blocks (run_made (number_at bytes (at + 4))))
+  pub counts_blocks : HasValues bytes at → at + 12 ≤ length bytes → number_at bytes (at + 8) ≡ 1 → counted_at bytes (at + 4) ≡ Ok (Counted.Blocks (run_made (number_at bytes (at + 4))))
   counts_blocks v h e = counts_values v ∙ mode_read h ∙ ap (λ m. modes (number_at bytes (at + 4)) (Ok m)) e
 
   mode_stands : HasValues bytes at → at + 12 ≤ length bytes → set_end bytes at ≡ behind (modes (number_at bytes (at + 4)) (Ok (number_at bytes (at + 8))))
@@ -115,8 +113,8 @@ module _ (bytes : List ℕ) (at : ℕ) where
   pub is_bad_mode : HasValues bytes at → at + 12 ≤ length bytes → 2 ≤ number_at bytes (at + 8) → set_end bytes at ≡ Err (Mode (at + 8))
   is_bad_mode v h bad =
       mode_stands v h
-      ∙ ap (λ b. behind (cond b (Ok (counted.InPlace (run_made (number_at bytes (at + 4))))) (cond (eqb (number_at bytes (at + 8)) 1) (Ok (counted.Blocks (run_made (number_at bytes (at + 4))))) (Err (Mode (at + 4 + 4)))))) (ne_eqb _ _ (λ (e : number_at bytes (at + 8) ≡ 0). omega arith))
-      ∙ ap (λ b. behind (cond b (Ok (counted.Blocks (run_made (number_at bytes (at + 4))))) (Err (Mode (at + 4 + 4))))) (ne_eqb _ _ (λ (e : number_at bytes (at + 8) ≡ 1). omega arith))
+      ∙ ap (λ b. behind (cond b (Ok (Counted.InPlace (run_made (number_at bytes (at + 4))))) (cond (eqb (number_at bytes (at + 8)) 1) (Ok (Counted.Blocks (run_made (number_at bytes (at + 4))))) (Err (Mode (at + 4 + 4)))))) (ne_eqb _ _ (λ (e : number_at bytes (at + 8) ≡ 0). omega arith))
+      ∙ ap (λ b. behind (cond b (Ok (Counted.Blocks (run_made (number_at bytes (at + 4))))) (Err (Mode (at + 4 + 4))))) (ne_eqb _ _ (λ (e : number_at bytes (at + 8) ≡ 1). omega arith))
       ∙ ap (λ k. failed ℕ (Mode k)) same_eight
 
   -- where its pairs end, in place or not

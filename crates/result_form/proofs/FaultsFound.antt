@@ -12,8 +12,7 @@ use Rattle.pcp_base.specs.declared.result.ValueSet.{ValueSet}
 use Rattle.pcp_base.specs.declared.result.PmResult.{PmResult}
 use Rattle.result_form.specs.declared.fault.FormFault.{FormFault}
 use Rattle.result_form.specs.declared.fault.FormFault.TheVariants.{Short, Stamp, Count, Mode, Offset, Block, Trailing, NoMemory}
-use Rattle.result_form.specs.declared.fields.Counted.{Counted}
-use Rattle.result_form.specs.declared.fields.Counted.TheVariants as counted
+use Rattle.result_form.specs.Counts.{Counted}
 use Rattle.result_form.specs.Decoding.{◌>>=◌, Gives, word_below, stamp_of, counted_at, set_end, sets_end, values_from, offset_pair, blocks_from, body_of, set_at, sets_from, payload_result}
 use Rattle.result_form.specs.Faults.{IsStatus, HasValues, HasMode, HasBlocks, HasHead, pairs_end, SetStands, SetsStand, IsSetFault, IsSetsFault, block_begin, block_end, LeadsIn, IsWhole, PairsReach, IsPairsFault, SetReaches, SetsReach, IsBlocksFault, IsFault, IsFormFault}
 use Rattle.result_form.proofs.FaultRules.{done, word_stands, below_stands, below_ends, below_fails, ends_in_metric, ends_in_number, is_status, ends_in_mode, is_bad_mode, ends_in_pairs, pairs_stand, counts_status, counts_in_place, counts_blocks, pair_stands, leads_out, is_bad_block, block_stands, pair_found, run_made}
@@ -180,7 +179,7 @@ in_their_blocks pairs = Ok (bodies.Blocks pairs.0, pairs.1)
 pub at_status : (bytes : List ℕ) (end at before : ℕ) → at + 8 ≤ length bytes → IsStatus (number_at bytes (at + 4))
     → set_at bytes end before at ≡ Ok (a_set (number_at bytes at) (bodies.Status (cast_signed w32 (number_at bytes (at + 4)))), before)
 unfolding body_of
-at_status bytes end at before h s = set_from bytes end at before (counted.Status (cast_signed w32 (number_at bytes (at + 4)))) (omega arith) (counts_status bytes at h s)
+at_status bytes end at before h s = set_from bytes end at before (Counted.Status (cast_signed w32 (number_at bytes (at + 4)))) (omega arith) (counts_status bytes at h s)
 
 pub at_values : (bytes : List ℕ) (end at before : ℕ) → HasMode bytes at → pairs_end bytes at ≤ length bytes → number_at bytes (at + 8) ≡ 0
     → (s : ValueSet) × (set_at bytes end before at ≡ Ok (s, before))
@@ -189,7 +188,7 @@ at_values bytes end at before m whole e =
     let room : at + 12 ≤ length bytes = m.1 in
     let values = values_stand bytes (number_at bytes (at + 4)) (at + 4 + 4 + 4) (omega arith) in (
       a_set (number_at bytes at) (bodies.InPlace values.0),
-      set_from bytes end at before (counted.InPlace (run_made bytes at (number_at bytes (at + 4)))) (omega arith) (counts_in_place bytes at m.0 m.1 e)
+      set_from bytes end at before (Counted.InPlace (run_made bytes at (number_at bytes (at + 4)))) (omega arith) (counts_in_place bytes at m.0 m.1 e)
           ∙ ap (λ (r : Result (List (ℤ × ℕ)) FormFault). with_body (number_at bytes at) (r >>= in_place before)) values.1,
     )
 
@@ -202,7 +201,7 @@ unfolding body_of
 at_blocks bytes end at before m e =
     let room : at + 12 ≤ length bytes = m.1 in
     let from : at + 4 + 4 + 4 ≡ at + 12 = omega arith in
-    set_from bytes end at before (counted.Blocks (run_made bytes at (number_at bytes (at + 4)))) (omega arith) (counts_blocks bytes at m.0 m.1 e)
+    set_from bytes end at before (Counted.Blocks (run_made bytes at (number_at bytes (at + 4)))) (omega arith) (counts_blocks bytes at m.0 m.1 e)
     ∙ ap (λ k. in_blocks (number_at bytes at) (blocks_from bytes end before (number_at bytes (at + 4)) k)) from
 
 pub not_blocks : (bytes : List ℕ) (at : ℕ) → IsStatus (number_at bytes (at + 4)) → HasBlocks bytes at → ⊥

@@ -14,7 +14,7 @@ use Rattle.result_form.specs.declared.fault.FormFault.{FormFault}
 use Rattle.result_form.specs.declared.fault.FormFault.TheVariants.{Stamp, Count, Trailing}
 use Rattle.result_form.specs.Decoding.{◌>>=◌, Gives, word_at, word_below, stamp_of, sets_end, sets_from, payload_result}
 use Rattle.result_form.proofs.Spans.{bind_ok, guard_ok, only_ok, ok_is, Spans, joined, word_takes}
-use Rattle.result_form.proofs.Sets.{sets_takes, sets_grow}
+use Rattle.result_form.proofs.SetsRead.{sets_takes, sets_grow}
 
 below_ok : (bytes : List ℕ) (at bound n : ℕ) (fault : FormFault) → word_below bytes at bound fault ≡ Ok n → (word_at bytes at ≡ Ok n) × (n < bound)
 below_ok bytes at bound n fault e =

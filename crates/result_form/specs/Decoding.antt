@@ -12,9 +12,7 @@ use Rattle.pcp_base.specs.declared.result.PmResult.{PmResult}
 use Rattle.pcp_model.specs.Payload.{filling, offset_byte}
 use Rattle.result_form.specs.declared.fault.FormFault.{FormFault}
 use Rattle.result_form.specs.declared.fault.FormFault.TheVariants.{Short, Stamp, Count, Mode, Offset, Block, Trailing, NoMemory}
-use Rattle.result_form.specs.declared.fields.Run.{Run}
-use Rattle.result_form.specs.declared.fields.Counted.{Counted}
-use Rattle.result_form.specs.declared.fields.Counted.TheVariants as counted
+use Rattle.result_form.specs.Counts.{Run, Counted}
 
 infixl 10 ◌>>=◌
 abbrev pub ◌>>=◌ : {A B : Type 0} → Result A FormFault → (A → Result B FormFault) → Result B FormFault
@@ -47,24 +45,18 @@ stamp_of bytes = do
   usec ← word_below bytes 4 1000000 (Stamp 4)
   Ok (record { sec = sec; usec = usec })
 
--- pairs begin in the payload
-abbrev pub LiesIn : ℕ → Counted → Type 0
-LiesIn size (counted.Status n) = Unit {0}
-LiesIn size (counted.InPlace run) = run.from ≤ size
-LiesIn size (counted.Blocks run) = run.from ≤ size
-
 -- the storage mode of values, 0 in place and 1 in blocks, and behind it their pairs
 unfoldable pub run_at : List ℕ → ℕ → ℕ → Result Counted FormFault
 run_at bytes at count = do
   mode ← word_at bytes at
-  if mode == 0 then Ok (counted.InPlace (record { from = at + 4; count = count })) else
-      if mode == 1 then Ok (counted.Blocks (record { from = at + 4; count = count })) else Err (Mode at)
+  if mode == 0 then Ok (Counted.InPlace (record { from = at + 4; count = count })) else
+      if mode == 1 then Ok (Counted.Blocks (record { from = at + 4; count = count })) else Err (Mode at)
 
 -- Behind its metric a set has the number of its values; one of 0 or below is the status, and nothing follows it.
 unfoldable pub counted_at : List ℕ → ℕ → Result Counted FormFault
 counted_at bytes at = do
   n ← word_at bytes at
-  if n == 0 || nat_le 2147483648 n then Ok (counted.Status (cast_signed w32 n)) else run_at bytes (at + 4) n
+  if n == 0 || nat_le 2147483648 n then Ok (Counted.Status (cast_signed w32 n)) else run_at bytes (at + 4) n
 
 -- the byte behind pairs of two words each, where so many lie in the payload
 abbrev pub run_end : List ℕ → Run → Result ℕ FormFault
@@ -73,9 +65,9 @@ run_end bytes run =
 
 -- the byte behind a set's words, the number of its values standing at a byte
 abbrev pub end_of : List ℕ → ℕ → Counted → Result ℕ FormFault
-end_of bytes at (counted.Status n) = Ok (at + 4)
-end_of bytes at (counted.InPlace run) = run_end bytes run
-end_of bytes at (counted.Blocks run) = run_end bytes run
+end_of bytes at (Counted.Status n) = Ok (at + 4)
+end_of bytes at (Counted.InPlace run) = run_end bytes run
+end_of bytes at (Counted.Blocks run) = run_end bytes run
 
 -- the byte behind a set
 unfoldable pub set_end : List ℕ → ℕ → Result ℕ FormFault
@@ -142,11 +134,11 @@ blocks_from bytes sets_end reached (suc n) at = do
 
 -- what a set holds, and the greatest end with those of its blocks
 unfoldable pub body_of : List ℕ → ℕ → ℕ → Counted → Result (Body × ℕ) FormFault
-body_of bytes sets_end reached (counted.Status n) = Ok (bodies.Status n, reached)
-body_of bytes sets_end reached (counted.InPlace run) = do
+body_of bytes sets_end reached (Counted.Status n) = Ok (bodies.Status n, reached)
+body_of bytes sets_end reached (Counted.InPlace run) = do
   pairs ← values_from bytes run.count run.from
   Ok (bodies.InPlace pairs, reached)
-body_of bytes sets_end reached (counted.Blocks run) = do
+body_of bytes sets_end reached (Counted.Blocks run) = do
   pairs ← blocks_from bytes sets_end reached run.count run.from
   Ok (bodies.Blocks pairs.0, pairs.1)
 

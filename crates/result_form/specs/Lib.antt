@@ -1,4 +1,9 @@
+pub mod Bodies
+pub mod Counts
 pub mod Decoding
 pub mod Faults
 pub mod Laws
+pub mod Lying
 pub mod Ranges
+pub mod Reaching
+pub mod Shown

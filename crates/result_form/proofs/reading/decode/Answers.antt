@@ -1,15 +1,9 @@
-use Rattle.std.proofs.Common.{arith, subst}
-use Rattle.result_form.specs.Decoding.{Gives}
-use Rattle.result_form.proofs.Again.{payload_again}
-use Rattle.result_form.proofs.Whole.{is_found}
-use Rattle.result_form.proofs.FaultsFound.{is_fault}
+use Rattle.std.proofs.Common.{Ok, Err, refl, sym, ap, ◌∙◌}
+use Rattle.result_form.proofs.ShownPairs.{other_fault}
 use Rattle.result_form.proofs.reading.decode.Goals as goal
 
-pub returns-clause-found : goal.returns-clause-found
-returns-clause-found c = is_found c.args.payload.now c.read.result (λ i. omega (arith, c.type_inv.payload i)) c.read.ensures.answer
+pub returns-in_err-read-clause-only : goal.returns-in_err-read-clause-only
+returns-in_err-read-clause-only c = λ r is. absurd (other_fault (Err c.in_err-read.field-0.0) r c.in_err-read.field-0.0 (c.in_err-read.ensures.only r is) refl)
 
 pub returns-clause-only : goal.returns-clause-only
-returns-clause-only c = λ r is. subst (λ f. Gives c.read.result f) (payload_again c.args.payload.now r (λ i. omega (arith, c.type_inv.payload i)) is) c.read.ensures.answer
-
-pub returns-clause-fault : goal.returns-clause-fault
-returns-clause-fault c = is_fault c.args.payload.now c.read.result c.read.ensures.answer
+returns-clause-only c = λ r is. sym (c.in_ok-read.ensures.only r is) ∙ ap Ok (sym c.in_ok-answer.ensures)

@@ -1,4 +1,0 @@
-pub mod Bodies
-pub mod Laws
-pub mod Reaching
-pub mod Shown
