@@ -46,8 +46,9 @@ pub fn first_after<D: Disk>(
     ensures quiet { OnOk result (D.faults disk.new ≡ D.faults disk.old) }
 {
     let mut at = 132;
+    let mut frame = Vec::new(alloc);
     for _ in 0..u64::MAX {
-        match step(alloc, disk, file, end, at)? {
+        match step(disk, file, end, at, &mut frame)? {
             None => return Ok(None),
             Some((stamp, next)) => {
                 if let Some(found) = after(stamp, t) {

@@ -38,8 +38,9 @@ fn around<D: Disk>(
     ensures quiet { OnOk result (D.faults disk.new ≡ D.faults disk.old) }
 {
     let mut at = 132;
+    let mut frame = Vec::new(alloc);
     for _ in 0..u64::MAX {
-        match step(alloc, disk, file, end, at)? {
+        match step(disk, file, end, at, &mut frame)? {
             None => return Ok((at, offset)),
             Some((_, next)) => {
                 if next > offset {

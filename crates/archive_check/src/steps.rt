@@ -10,7 +10,6 @@ ghost use Rattle.archive_check.specs.Stamped.{Steps, IsHead};
 use archive_loading::{Lack, Taken, stamp_in, take_frame};
 use pcp_base::{NoMemory, Stamp, be32};
 use pcp_outside::{Disk, FileId};
-use std::alloc::Global;
 
 /// A volume's number is below 2^32 - 1.
 pub fn numbered(number: u32) -> Result<(), NoMemory>
@@ -43,12 +42,12 @@ fn head_in(front: &[u8], left: u64) -> Option<(Stamp, u64)>
     Some((stamp, size))
 }
 
-/// The stamp of a domain's record of Meta.
+/// The stamp of a domain's record of Meta, which is taken into the buffer.
 fn meta_step<D: Disk>(
-    alloc: Global,
     disk: &mut D,
     end: u64,
     at: u64,
+    frame: &mut Vec<u8>,
 ) -> Result<Option<(Option<Stamp>, u64)>, Lack>
     requires { D.tells → end ≡ length (contents_of (D.held disk.old) Meta) }
     ensures found { D.tells → IfOk result (Steps Meta (contents_of (D.held disk.old) Meta) at) }
@@ -56,12 +55,12 @@ fn meta_step<D: Disk>(
     ensures cause { IfErr result (Blames D.Disk disk.old disk.new) }
     ensures quiet { OnOk result (D.faults disk.new ≡ D.faults disk.old) }
 {
-    match take_frame(alloc, disk, FileId::Meta, end, at)? {
+    match take_frame(disk, FileId::Meta, end, at, frame)? {
         Taken::Torn => Ok(None),
         Taken::Wrong => Ok(None),
-        Taken::Frame(frame) => {
+        Taken::Frame => {
             let next = at + frame.len() as u64;
-            Ok(Some((stamp_in(frame.as_slice()), next)))
+            Ok(Some((stamp_in(frame), next)))
         }
     }
 }
@@ -92,12 +91,13 @@ fn volume_step<D: Disk>(
 }
 
 /// The next record's stamp, if it has one, and the offset behind it; of a readable file of this length, at a place between its records.
+/// A record of Meta is taken into the buffer, in place of what it held.
 pub fn step<D: Disk>(
-    alloc: Global,
     disk: &mut D,
     file: FileId,
     end: u64,
     at: u64,
+    frame: &mut Vec<u8>,
 ) -> Result<Option<(Option<Stamp>, u64)>, Lack>
     requires numbered { IsNumbered file }
     requires end { D.tells → end ≡ length (contents_of (D.held disk.old) file) }
@@ -107,7 +107,7 @@ pub fn step<D: Disk>(
     ensures quiet { OnOk result (D.faults disk.new ≡ D.faults disk.old) }
 {
     match file {
-        FileId::Meta => meta_step(alloc, disk, end, at),
+        FileId::Meta => meta_step(disk, end, at, frame),
         FileId::Index => Ok(None),
         FileId::Volume(number) => volume_step(disk, number, end, at),
     }

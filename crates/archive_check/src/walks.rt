@@ -33,9 +33,10 @@ pub fn walk<D: Disk>(
 {
     let mut tally = tally;
     let mut at = 132;
+    let mut frame = Vec::new(alloc);
     for _ in 0..u64::MAX {
         pass(marks, file, at, tally.time)?;
-        match step(alloc, disk, file, end, at)? {
+        match step(disk, file, end, at, &mut frame)? {
             None => return Ok(tally),
             Some((stamp, next)) => {
                 tally = with_record(tally, stamp);

@@ -13,38 +13,28 @@ ghost use Rattle.archive_check.specs.Checks.{HoldsSound, IsCheckFault};
 use crate::fault::CheckFault;
 use crate::verdict::{Verdict, judge};
 use archive_reader::{ArchiveReader, ReaderFault};
-use pcp_base::{Pmid, Stamp};
 use pcp_outside::Disk;
 use std::alloc::Global;
 
 /// Reads each record of the volumes, which has to be an item's.
-fn read_all<D: Disk>(
-    alloc: Global,
-    disk: &mut D,
-    reader: &mut ArchiveReader,
-) -> Result<(), ReaderFault>
-    requires { D.tells → IsOver (contents_of (D.held disk.old)) reader.old }
-    ensures same { reader.new ≡ reader.old }
+fn read_all<D: Disk>(alloc: Global, disk: &mut D, reader: &ArchiveReader) -> Result<(), ReaderFault>
+    requires { D.tells → IsOver (contents_of (D.held disk.old)) reader.now }
     ensures read { D.tells → OnOk result (Readable (contents_of (D.held disk.old))) }
-    ensures fault { D.tells → IfErr result (IsWholeFault (contents_of (D.held disk.old)) reader.old.volumes) }
+    ensures fault { D.tells → IfErr result (IsWholeFault (contents_of (D.held disk.old)) reader.now.volumes) }
     ensures looks { Looks D.Disk disk.old disk.new }
     ensures cause { IfErr result (λ e. e ≡ DiskFault → Rose (D.faults disk.old) (D.faults disk.new)) }
     ensures quiet { OnOk result (D.faults disk.new ≡ D.faults disk.old) }
 {
-    let Some(start) = Stamp::build(0, 0) else {
-        return Err(ReaderFault::NoMemory);
-    };
-    reader.value_at(alloc, disk, Pmid::of_word(0), start)?;
-    Ok(())
+    reader.read_all(alloc, disk)
 }
 
 /// Whether what was loaded is sound.
 fn check_loaded<D: Disk>(
     alloc: Global,
     disk: &mut D,
-    reader: &mut ArchiveReader,
+    reader: &ArchiveReader,
 ) -> Result<u64, CheckFault>
-    requires over { D.tells → IsOver (contents_of (D.held disk.old)) reader.old }
+    requires over { D.tells → IsOver (contents_of (D.held disk.old)) reader.now }
     requires unwrapped { D.tells → D.wrapped_file disk.old ≡ None }
     ensures sound { D.tells → IfOk result (HoldsSound (contents_of (D.held disk.old))) }
     ensures fault { D.tells → IfErr result (IsCheckFault (D.wrapped_file disk.old) (contents_of (D.held disk.old))) }
@@ -73,6 +63,6 @@ pub fn check<D: Disk>(alloc: Global, disk: &mut D) -> Result<u64, CheckFault>
     ensures cause { IfErr result (λ e. e ≡ Unread DiskFault → Rose (D.faults disk.old) (D.faults disk.new)) }
     ensures quiet { OnOk result (D.faults disk.new ≡ D.faults disk.old) }
 {
-    let mut reader = ArchiveReader::load(alloc, disk)?;
-    check_loaded(alloc, disk, &mut reader)
+    let reader = ArchiveReader::load(alloc, disk)?;
+    check_loaded(alloc, disk, &reader)
 }

@@ -1,16 +1,14 @@
 -- A record that ends at an offset, and how many bytes were taken.
-use Rattle.std.proofs.Common.{◌≡◌, ◌⊎◌, inl, inr, ⊎_elim, ℕ, ◌+◌, ◌-◌, ◌<◌, ◌≤◌, List, [], ◌∷◌, ◌++◌, length, take, drop, Result, Ok, Err, refl, sym, ap, ◌∙◌, subst, arith}
+use Rattle.std.proofs.Common.{◌≡◌, inl, inr, ℕ, ◌+◌, ◌-◌, ◌<◌, ◌≤◌, List, ◌++◌, length, take, drop, Result, Ok, Err, refl, sym, ap, ◌∙◌, subst, arith}
 use Rattle.std.specs.Int.{w32, from_be_bytes}
 use Rattle.std.specs.List.{slice_range}
-use Rattle.std.specs.Prelude.{IfOk, Option, Some, None}
+use Rattle.std.specs.Prelude.{Option, Some, None}
 use Rattle.std.proofs.Math.Seq.{take-add}
-use Rattle.std.proofs.lemmas.List.{drop_at, take_all, take-take, drop-drop, length-append, length-take, length-drop}
+use Rattle.std.proofs.lemmas.List.{drop_at, take-take, drop-drop, length-append, length-take, length-drop}
 use Rattle.pcp_base.specs.Fields.{number_at}
 use Rattle.pcp_base.specs.declared.file.FileId.{FileId}
 use Rattle.pcp_base.specs.declared.file.FileId.TheVariants.{Meta, Index, Volume}
-use Rattle.pcp_base.specs.declared.memory.NoMemory.{NoMemory}
 use Rattle.pcp_base.specs.declared.result.Item.{Item}
-use Rattle.pcp_model.specs.Payload.{IsItem}
 use Rattle.pcp_outside.specs.Devices.{Counts}
 use Rattle.archive_frame.specs.declared.fault.FrameFault.{FrameFault}
 use Rattle.archive_frame.specs.declared.steps.Step.{Step}
@@ -19,9 +17,9 @@ use Rattle.archive_frame.specs.Steps.{Stands, IsSize, IsBack}
 use Rattle.archive_frame.proofs.Records.{Ends, stood}
 use Rattle.archive_loading.specs.declared.backward.Last.{Last}
 use Rattle.archive_loading.specs.declared.backward.Last.TheVariants.{Nothing, Bad, Item as AnItem}
-use Rattle.archive_loading.specs.Ending.{NoFrameEnds, ItemEnds, OtherEnds, IsLastRecord, IsTailed, IsWholeRecord}
-use Rattle.archive_loading.specs.Standing.{IsItemOf, ItemStands, WasTaken}
-use Rattle.archive_loading.specs.Taking.{volume_bytes, IsPart, IsPartBack, Took, TookBack, TookBehind, TookBefore}
+use Rattle.archive_loading.specs.Ending.{NoFrameEnds, IsLastRecord, IsTailed, IsWholeRecord}
+use Rattle.archive_loading.specs.Standing.{IsItemOf, WasTaken}
+use Rattle.archive_loading.specs.Taking.{volume_bytes, Took, TookBack, TookBehind, TookBefore}
 use Rattle.archive_loading.proofs.Frames.{word_there, in_place, out_of_place, item_there}
 
 -- ---- how many bytes

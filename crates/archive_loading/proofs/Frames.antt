@@ -1,8 +1,8 @@
 -- Bytes that were taken at an offset, and what stands there.
-use Rattle.std.proofs.Common.{◌≡◌, ◌≢◌, ◌⊎◌, inl, inr, ⊎_elim, ℕ, ◌+◌, ◌-◌, ◌<◌, ◌≤◌, List, [], ◌∷◌, ◌++◌, length, take, drop, Result, Ok, Err, refl, sym, ap, ◌∙◌, subst, append_assoc, arith}
+use Rattle.std.proofs.Common.{◌≡◌, ◌⊎◌, inl, inr, ⊎_elim, ℕ, ◌+◌, ◌-◌, ◌<◌, ◌≤◌, List, [], ◌∷◌, ◌++◌, length, take, drop, Result, Ok, Err, refl, sym, ap, ◌∙◌, subst, append_assoc, arith}
 use Rattle.std.specs.Int.{w32, from_be_bytes}
-use Rattle.std.proofs.Math.Seq.{take-add, take-append-add}
-use Rattle.std.proofs.lemmas.List.{take_at, drop_at, take_all, take-append-drop, take-take, drop-drop, length-append, length-take, length-drop, append-nil}
+use Rattle.std.proofs.Math.Seq.{take-add}
+use Rattle.std.proofs.lemmas.List.{take_at, drop_at, take_all, take-append-drop, take-take, drop-drop, length-take, length-drop, append-nil}
 use Rattle.pcp_base.specs.declared.result.Item.{Item}
 use Rattle.pcp_model.specs.Frame.{frame, IsTorn}
 use Rattle.pcp_model.specs.Payload.{IsItem}
@@ -10,15 +10,11 @@ use Rattle.std.specs.List.{slice_range}
 use Rattle.archive_frame.specs.declared.fault.FrameFault.{FrameFault}
 use Rattle.archive_frame.specs.declared.steps.Step.{Step}
 use Rattle.archive_frame.specs.declared.steps.Step.TheVariants.{End, Payload}
-use Rattle.result_form.specs.declared.fault.FormFault.{FormFault}
-use Rattle.result_form.specs.declared.fault.FormFault.TheVariants.{NoMemory as Refused}
-use Rattle.result_form.specs.Decoding.{Gives}
 use Rattle.archive_frame.specs.Steps.{Stands, IsSize, IsForward}
 use Rattle.pcp_model.proofs.Lengths.{length-frame}
 use Rattle.archive_frame.proofs.Records.{Ends, stood}
-use Rattle.std.specs.Prelude.{IfOk, Option, Some, None}
+use Rattle.std.specs.Prelude.{Option, Some, None}
 use Rattle.pcp_base.specs.Fields.{number_at}
-use Rattle.pcp_base.specs.declared.memory.NoMemory.{NoMemory}
 use Rattle.archive_loading.specs.Standing.{IsItemOf, IsItemIn, ItemStands, NoItemStands, NoFrameStands, IsSized, WasTaken}
 
 -- a file that ends too early for a length word
@@ -139,10 +135,6 @@ whole_not_torn bytes taken at t (inr torn) =
 
 -- ---- one record that was looked at
 
--- a payload that was refused is no item
-pub no_item : (payload : List ℕ) (fault : FormFault) → ((x : Item) → IsItem payload x → Gives (Err fault) (Ok x)) → fault ≢ Refused → (x : Item) → IsItem payload x → ⊥
-no_item payload fault only other x is = ⊎_elim other (λ e. cc) (only x is)
-
 module _ (bytes : List ℕ) (at : ℕ) (result : Result Step FrameFault) (only : (payload : List ℕ) (next : ℕ) → Stands bytes payload at next → result ≡ Ok (Payload (at + 4) (at + 4 + length payload) next)) where
   no_step : ((from to next : ℕ) → result ≡ Ok (Payload from to next) → ⊥) → NoItemStands bytes at
   no_step none next x s = none (at + 4) (at + 4 + length s.payload) next (only s.payload next s.stands)
@@ -171,11 +163,10 @@ item_in_frame frame from to next x sized found is =
 
 -- the item in a frame over which a step went
 module _ (frame : List ℕ) (result : Result Step FrameFault) (only : (payload : List ℕ) (next : ℕ) → Stands frame payload 0 next → result ≡ Ok (Payload (0 + 4) (0 + 4 + length payload) next)) where
-  pub item_found : (from to next : ℕ) (answer : Result (Option Item) NoMemory) → IsSized frame → result ≡ Ok (Payload from to next) → IsForward frame 0 (Payload from to next)
-      → IfOk answer (IsItemOf (slice_range frame from to)) → IfOk answer (IsItemIn frame)
-  item_found from to next (Ok None) sized is found read = not_read frame 0 result only from to next is read
-  item_found from to next (Ok (Some x)) sized is found read = item_in_frame frame from to next x sized found read
-  item_found from to next (Err e) sized is found read = tt
+  pub item_found : (from to next : ℕ) (answer : Option Item) → IsSized frame → result ≡ Ok (Payload from to next) → IsForward frame 0 (Payload from to next)
+      → IsItemOf (slice_range frame from to) answer → IsItemIn frame answer
+  item_found from to next None sized is found read = not_read frame 0 result only from to next is read
+  item_found from to next (Some x) sized is found read = item_in_frame frame from to next x sized found read
 
 -- the first bytes of a file
 pub front_is : (bytes read : List ℕ) (count most : ℕ) → read ≡ [] ++ take count (drop 0 bytes) → (count ≡ most) ⊎ ((count ≡ length bytes) × (length bytes ≤ most)) → read ≡ take most bytes

@@ -1,10 +1,9 @@
 -- Calls that only look, one after another.
-use Rattle.std.proofs.Common.{◌≡◌, inl, inr, ⊎_elim, ℕ, ◌≤◌, Result, Option, refl, sym, ◌∙◌, ap, subst, arith}
-use Rattle.pcp_base.specs.declared.file.FileId.{FileId}
-use Rattle.pcp_model.specs.Disk.{Files, Holdings, CrashImage}
+use Rattle.std.proofs.Common.{◌≡◌, inl, inr, ⊎_elim, Result, refl, ◌∙◌, subst, arith}
+use Rattle.pcp_model.specs.Disk.{Files, CrashImage}
 use Rattle.pcp_outside.specs.declared.disk.Disk.{Ghosts as DiskGhosts}
-use Rattle.pcp_outside.specs.Causes.{Rose, HasCause}
-use Rattle.pcp_outside.specs.Devices.{Elapses, LeavesOnly}
+use Rattle.pcp_outside.specs.Causes.{HasCause}
+use Rattle.pcp_outside.specs.Devices.{Elapses}
 use Rattle.pcp_outside.proofs.Crash.{started, joined, weaker, after_look}
 use Rattle.archive_loading.specs.Looks.{Looks, Blames}
 use Rattle.archive_loading.specs.declared.lack.Lack.{Lack}

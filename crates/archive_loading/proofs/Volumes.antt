@@ -47,6 +47,19 @@ rises_push : (n end : ℕ) (vs : List (ℕ × ℕ)) → Rises vs → AllByRecurs
 rises_push n end [] rises below = (tt, tt)
 rises_push n end (v ∷ vs) rises below = (each-append (λ (w : ℕ × ℕ). v.0 < w.0) vs ((n, end) ∷ []) rises.0 (below.0, tt), rises_push n end vs rises.1 below.1)
 
+-- they rise, all below a number
+abbrev pub RiseTo : ℕ → List (ℕ × ℕ) → Type 0
+RiseTo n vs = Rises vs × AllByRecursion (λ (v : ℕ × ℕ). v.0 < n) vs
+
+pub rise_on : (n : ℕ) (vs : List (ℕ × ℕ)) → RiseTo n vs → RiseTo (n + 1) vs
+rise_on n vs r = (r.0, above n vs r.1)
+
+pub rise_with : (n end : ℕ) (vs : List (ℕ × ℕ)) → RiseTo n vs → RiseTo (n + 1) (vs ++ (n, end) ∷ [])
+rise_with n end vs r = (
+  rises_push n end vs r.0 r.1,
+  each-append (λ (v : ℕ × ℕ). v.0 < n + 1) vs ((n, end) ∷ []) (above n vs r.1) (let lt : n < n + 1 = omega arith in lt, tt),
+)
+
 pub skips : (files : Files) (l : LabelFields) (count n : ℕ) (vs : List (ℕ × ℕ)) → files (Volume n) ≡ [] → SoFar files l count n vs → SoFar files l count (n + 1) vs
 skips files l count n vs none s = record {
   each = s.each;

@@ -1,5 +1,5 @@
 -- What a call does to a disk of which it only reads.
-use Rattle.std.specs.Prelude.{◌≡◌, ℕ, ◌≤◌, Result, IfErr}
+use Rattle.std.specs.Prelude.{◌≡◌, ◌≤◌}
 use Rattle.pcp_model.specs.Disk.{CrashImage}
 use Rattle.pcp_outside.specs.declared.disk.Disk.{Ghosts as DiskGhosts}
 use Rattle.pcp_outside.specs.Causes.{Rose}

@@ -1,5 +1,5 @@
 -- What stands at an offset of a file, and what ends there.
-use Rattle.std.specs.Prelude.{◌≡◌, ◌⊎◌, ℕ, ◌+◌, ◌<◌, ◌≤◌, List, length, take, drop, Option, Some, None}
+use Rattle.std.specs.Prelude.{◌≡◌, ℕ, ◌+◌, ◌<◌, ◌≤◌, List, length, take, drop, Option, Some, None}
 use Rattle.pcp_base.specs.Fields.{number_at}
 use Rattle.pcp_base.specs.declared.result.Item.{Item as AnItem}
 use Rattle.pcp_model.specs.Frame.{IsTorn}
@@ -35,17 +35,18 @@ pub record WasTaken (bytes : List ℕ) (at : ℕ) (frame : List ℕ) : Type 0 wh
   pub within : at + length frame ≤ length bytes
   pub is : frame ≡ take (length frame) (drop at bytes)
 
--- Fewer bytes than a record stand there, perhaps none; or a length word that no record has; or as many bytes as it says.
-abbrev pub IsTaken : List ℕ → ℕ → Taken → Type 0
-IsTaken bytes at Torn = IsTorn (drop at bytes)
-IsTaken bytes at Wrong = NoFrameStands bytes at × (IsTorn (drop at bytes) → ⊥)
-IsTaken bytes at (Frame frame) = WasTaken bytes at frame
+-- Fewer bytes than a record stand there, perhaps none; or a length word that no record has; or as many bytes as it says, and
+-- these are the buffer's.
+abbrev pub IsTaken : List ℕ → ℕ → List ℕ → Taken → Type 0
+IsTaken bytes at frame Torn = IsTorn (drop at bytes)
+IsTaken bytes at frame Wrong = NoFrameStands bytes at × (IsTorn (drop at bytes) → ⊥)
+IsTaken bytes at frame Frame = WasTaken bytes at frame
 
 -- which a file of this length has
-abbrev pub FitsIn : ℕ → ℕ → Taken → Type 0
-FitsIn end at Torn = Unit {0}
-FitsIn end at Wrong = Unit {0}
-FitsIn end at (Frame frame) = IsSized frame × (at + length frame ≤ end)
+abbrev pub FitsIn : ℕ → ℕ → List ℕ → Taken → Type 0
+FitsIn end at frame Torn = Unit {0}
+FitsIn end at frame Wrong = Unit {0}
+FitsIn end at frame Frame = IsSized frame × (at + length frame ≤ end)
 
 -- what a length word says where so many bytes are left
 abbrev pub IsSaid : ℕ → ℕ → Said → Type 0

@@ -10,7 +10,7 @@ use Rattle.archive_loading.specs.declared.loading.VolumePart.{VolumePart}
 use Rattle.archive_loading.specs.declared.loading.VolumePart.TheVariants.{Empty, Headed, Stops as StopsAt}
 use Rattle.archive_loading.specs.declared.loading.VolumesPart.{VolumesPart}
 use Rattle.archive_loading.specs.declared.loading.VolumesPart.TheVariants.{Headed as AllHeaded, Stops as OneStops}
-use Rattle.archive_loading.specs.Loaded.{IsLabelled, AreLabelled, IsReachable, numbers}
+use Rattle.archive_loading.specs.Loaded.{IsLabelled, AreLabelled, IsReachable, Rises, numbers}
 use Rattle.archive_loading.specs.LoadFaults.{LabelStops, VolumeStops, AreLabelledBelow}
 
 abbrev pub IsVolumeHead : List ℕ → LabelFields → ℕ → Head → Type 0
@@ -35,6 +35,11 @@ IsVolumesPart files l (OneStops n offset) = AreLabelledBelow files l n × Volume
 abbrev pub IsReachablePart : VolumesPart → Type 0
 IsReachablePart (AllHeaded volumes) = IsReachable volumes
 IsReachablePart (OneStops n offset) = Unit {0}
+
+-- by ascending number
+abbrev pub AreRising : VolumesPart → Type 0
+AreRising (AllHeaded volumes) = Rises volumes
+AreRising (OneStops n offset) = Unit {0}
 
 -- only Meta may hold a byte
 pub record IsAlone (files : Files) : Type 0 where

@@ -71,8 +71,8 @@ fn last_in(alloc: Global, frame: &[u8], first: u64) -> Result<Last, NoMemory>
     ensures { IsTailed frame.now → IfOk result (IsWholeRecord frame.now first) }
 {
     match step_back(frame, frame.len()) {
-        Ok(Step::Payload { from, to, next: _ }) => match item_of(alloc, &frame[from..to])? {
-            Some(item) => Ok(Last::Item(item)),
+        Ok(Step::Payload { from, to, next: _ }) => match item_of(&frame[from..to]) {
+            Some(item) => Ok(Last::Item(item.to_item(alloc)?)),
             None => Ok(Last::Bad(first)),
         },
         Ok(Step::End) => Ok(Last::Nothing),

@@ -5,7 +5,7 @@ ghost use Rattle.pcp_model.specs.Disk.{contents_of};
 ghost use Rattle.pcp_outside.specs.Devices.{IsVolumes};
 ghost use Rattle.archive_loading.specs.Looks.{Looks, Blames};
 ghost use Rattle.archive_loading.specs.Parts.{IsIndexPart};
-ghost use Rattle.archive_loading.specs.Volumes.{IsVolumeHead, IsVolumePart, IsVolumesPart, IsReachablePart, IsAlone};
+ghost use Rattle.archive_loading.specs.Volumes.{IsVolumeHead, IsVolumePart, IsVolumesPart, IsReachablePart, AreRising, IsAlone};
 ghost use Rattle.archive_loading.specs.LoadFaults.{IsBeside};
 ghost use Rattle.archive_loading.specs.Takes.{label_bytes, TookLabels};
 
@@ -101,6 +101,7 @@ fn load_heads<D: Disk>(
     requires { D.tells → IsVolumes (D.held disk.old) count }
     ensures volumes { D.tells → IfOk result (IsVolumesPart (contents_of (D.held disk.old)) label.now) }
     ensures reachable { IfOk result IsReachablePart }
+    ensures rises { IfOk result AreRising }
     ensures taken { D.tells → D.taken disk.new ≤ D.taken disk.old + label_bytes (contents_of (D.held disk.old)) count }
     ensures looks { Looks D.Disk disk.old disk.new }
     ensures cause { IfErr result (Blames D.Disk disk.old disk.new) }
@@ -125,6 +126,7 @@ pub fn load_volumes<D: Disk>(
 ) -> Result<VolumesPart, Lack>
     ensures volumes { D.tells → IfOk result (IsVolumesPart (contents_of (D.held disk.old)) label.now) }
     ensures reachable { IfOk result IsReachablePart }
+    ensures rises { IfOk result AreRising }
     ensures taken { D.tells → TookLabels (contents_of (D.held disk.old)) (D.taken disk.old) (D.taken disk.new) }
     ensures looks { Looks D.Disk disk.old disk.new }
     ensures cause { IfErr result (Blames D.Disk disk.old disk.new) }

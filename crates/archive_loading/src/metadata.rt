@@ -76,7 +76,7 @@ fn add_frame(
     }
 }
 
-/// Adds the record that stands in Meta at a byte behind the label.
+/// Adds the record that stands in Meta at a byte behind the label, taken into the buffer.
 fn add_next<D: Disk>(
     alloc: Global,
     disk: &mut D,
@@ -84,6 +84,7 @@ fn add_next<D: Disk>(
     last: &mut Option<Stamp>,
     end: u64,
     at: u64,
+    frame: &mut Vec<u8>,
 ) -> Result<Added, Lack>
     requires behind { 132 ≤ at }
     requires long { D.tells → (end ≡ length (contents_of (D.held disk.old) Meta)) × (132 ≤ end) }
@@ -94,12 +95,12 @@ fn add_next<D: Disk>(
     ensures cause { IfErr result (Blames D.Disk disk.old disk.new) }
     ensures quiet { OnOk result (D.faults disk.new ≡ D.faults disk.old) }
 {
-    let frame = match take_frame(alloc, disk, FileId::Meta, end, at)? {
+    match take_frame(disk, FileId::Meta, end, at, frame)? {
         Taken::Torn => return Ok(Added::End),
         Taken::Wrong => return Ok(Added::Stops),
-        Taken::Frame(frame) => frame,
-    };
-    let added = add_frame(alloc, meta, last, frame.as_slice())?;
+        Taken::Frame => {}
+    }
+    let added = add_frame(alloc, meta, last, frame)?;
     if added {
         return Ok(Added::Record(at + frame.len() as u64));
     }
@@ -118,8 +119,9 @@ fn read_records<D: Disk>(alloc: Global, disk: &mut D, end: u64) -> Result<Record
     let mut meta = MetaState::empty(alloc);
     let mut last = None;
     let mut at = 132;
+    let mut frame = Vec::new(alloc);
     while at < end {
-        match add_next(alloc, disk, &mut meta, &mut last, end, at)? {
+        match add_next(alloc, disk, &mut meta, &mut last, end, at, &mut frame)? {
             Added::End => return Ok(RecordsRead::Whole(meta, at, last)),
             Added::Stops => return Ok(RecordsRead::Stops(at)),
             Added::Record(next) => at = next,

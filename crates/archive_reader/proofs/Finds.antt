@@ -27,14 +27,13 @@ use Rattle.archive_reader.specs.Asked.{last_entry, is_entry_before, is_entry_by,
 use Rattle.archive_reader.specs.Laws.{IsEntry, LastIsFound, RangeIsFound}
 use Rattle.archive_loading.specs.Loaded.{Loaded, IsOver, IsKeptOf, IsHeaded, IsLabelledArchive, Rises, numbers}
 use Rattle.archive_reader.specs.Searches.{or_else, last_of, at, between, segment, is_after, items_before, items_from, first_number, chosen_place}
-use Rattle.archive_reader.specs.Sounds.{StandsAs, BeginsInCutLabel, FindsLast, FindsRange, FindsValue}
-use Rattle.archive_reader.specs.Values.{value_at}
+use Rattle.archive_reader.specs.Sounds.{StandsAs, BeginsInCutLabel, FindsLast, FindsRange}
 use Rattle.archive_reader.specs.Walks.{volumes_from, Leads, IsBad, AllFrom}
 use Rattle.archive_reader.proofs.Archives.{Matches, IsSameAs, same_as, from_first}
 use Rattle.archive_reader.proofs.Backs.{from_has}
 use Rattle.archive_reader.proofs.Founds.{IsOf, is_of, up, BackIs, from_of, back_of}
 use Rattle.archive_reader.proofs.Searching.{chosen_is_enough}
-use Rattle.archive_reader.proofs.Segmented.{segment_is, segment_whole, one_all, never_bad, same_end, no_other_end}
+use Rattle.archive_reader.proofs.Segmented.{segment_is, segment_whole, never_bad, same_end, no_other_end}
 use Rattle.archive_reader.proofs.Stepping.{from_skips, from_stops}
 
 -- ---- readable archives stand
@@ -62,16 +61,6 @@ pub readable_stands : (files : Files) (reading : ArchiveReading) (r : Loaded) �
 readable_stands files reading r reads over =
     let stood = reads_as files reading r.label r.records r.entries r.volumes reads over in
     record { all = stood.0; records_are = stood.1; good = λ front ws to file offset leads bad. never files (scan reading) r.volumes stood.0 front ws to file offset leads bad }
-
--- ---- a metric's last values
-
-pub readable_finds_value : (files : Files) (reading : ArchiveReading) (r : Loaded) (pmid : ℕ) (t : Moment) → Reads files reading → IsOver files r → FindsValue files reading r pmid t
-readable_finds_value files reading r pmid t reads over =
-    let stood = reads_as files reading r.label r.records r.entries r.volumes reads over in
-    record {
-      found = λ x v. v.is ∙ ap (value_at pmid t) (one_all files v.items (scan reading) r.volumes 132 v.all.last v.all.to stood.0.last stood.0.to v.all.leads v.all.ends stood.0.leads stood.0.ends);
-      refused = λ file offset f. never files (scan reading) r.volumes stood.0 f.0 f.1.last f.1.to file offset f.1.leads f.1.bad;
-    }
 
 -- ---- where a search begins
 

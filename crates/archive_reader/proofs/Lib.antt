@@ -1,5 +1,7 @@
 pub mod Archives
 pub mod Backs
+pub mod Downward
+pub mod Ends
 pub mod Finds
 pub mod Founds
 pub mod Lacking

@@ -5,7 +5,6 @@ use Rattle.pcp_base.specs.Time.{Moment, microseconds}
 use Rattle.pcp_base.specs.declared.file.FileId.{FileId}
 use Rattle.pcp_base.specs.declared.file.FileId.TheVariants.{Volume}
 use Rattle.pcp_base.specs.declared.result.Item.{Item}
-use Rattle.pcp_base.specs.declared.result.ValueSet.{ValueSet}
 use Rattle.pcp_model.specs.Disk.{Files}
 use Rattle.pcp_model.specs.Payload.{stamp_of}
 use Rattle.pcp_model.specs.Sound.{IsItemBy}
@@ -18,9 +17,8 @@ use Rattle.archive_reader.specs.declared.fault.ReaderFault.TheVariants.{NotArchi
 use Rattle.archive_reader.specs.Asked.{HasSegment, SegmentStops, IsRangeFrom, IsRangeFault, IsAtFrom, IsAtFault, IsAtOnFault, IsLastOr, IsBackAt, BackStops, back_end, unless_after, at_begin, range_begin}
 use Rattle.archive_reader.specs.Once.{AnswersOnce}
 use Rattle.archive_reader.specs.Searches.{last_of, between}
-use Rattle.archive_reader.specs.Values.{IsValueAt, IsWholeFault, value_at}
-use Rattle.archive_reader.specs.Walks.{volumes_from, next_volumes, next_offset, StepsOver, IsEnd, IsBadThere, IsBad, Leads, StopsAt}
-use Rattle.archive_reader.proofs.Segmented.{SameNext, same_step, no_step, not_bad, end_there, moved, one_all, never_bad, same_end, no_other_end}
+use Rattle.archive_reader.specs.Walks.{volumes_from, next_volumes, next_offset, StepsOver, IsEnd, IsBadThere, IsBad, Leads}
+use Rattle.archive_reader.proofs.Segmented.{SameNext, same_step, no_step, not_bad, end_there, moved, same_end, no_other_end}
 
 -- ---- one walk
 
@@ -56,7 +54,7 @@ bad_once : (files : Files) (us : List (ℕ × ℕ)) (at : ℕ) (file other : Fil
 bad_once files [] at file other offset elsewhere bad worse = absurd bad
 bad_once files (u ∷ us) at file other offset elsewhere bad worse = (bad.0 ∙ sym worse.0, bad.1 ∙ sym worse.1)
 
-same_bad : (files : Files) (vs ws : List (ℕ × ℕ)) (at to : ℕ) (file other : FileId) (offset elsewhere : ℕ) → vs ≡ ws → at ≡ to → IsBad files vs at file offset → IsBad files ws to other elsewhere → SamePlace file other offset elsewhere
+pub same_bad : (files : Files) (vs ws : List (ℕ × ℕ)) (at to : ℕ) (file other : FileId) (offset elsewhere : ℕ) → vs ≡ ws → at ≡ to → IsBad files vs at file offset → IsBad files ws to other elsewhere → SamePlace file other offset elsewhere
 same_bad files vs ws at to file other offset elsewhere volumes same_offset bad worse =
     bad_once files (next_volumes vs at) (next_offset vs at) file other offset elsewhere bad (subst (λ o. IsBad files vs o other elsewhere) (sym same_offset) (subst (λ l. IsBad files l to other elsewhere) (sym volumes) worse))
 
@@ -169,29 +167,6 @@ module _ (files : Files) (volumes : List (ℕ × ℕ)) where
   range_apart from to (At n start) xs file offset one stops = segment_apart files (volumes_from n volumes) start to one.items file offset one.segment stops
   range_apart from to (Outside n start) xs file offset one stops = one
 
-  -- ---- all records
-
-  value_found : (pmid : ℕ) (t : Moment) (x y : Option (Moment × ValueSet)) → IsValueAt files volumes pmid t x → IsValueAt files volumes pmid t y → x ≡ y
-  value_found pmid t x y one other =
-      one.is ∙ ap (value_at pmid t) (one_all files one.items other.items volumes 132 one.all.last one.all.to other.all.last other.all.to one.all.leads one.all.ends other.all.leads other.all.ends) ∙ sym other.is
-
-  abbrev Any : Item → Type 0
-  Any x = Unit {0}
-
-  all_pass : (items : List Item) → AllByRecursion Any items
-  all_pass [] = tt
-  all_pass (x ∷ items) = (tt, all_pass items)
-
-  whole_stops : (file other : FileId) (offset elsewhere : ℕ) (items all : List Item) → StopsAt files volumes 132 items file offset → StopsAt files volumes 132 all other elsewhere → SamePlace file other offset elsewhere
-  whole_stops file other offset elsewhere items all s o =
-      let same : SameWalk items all s.last o.last s.to o.to =
-      one_walk files Any items all volumes 132 s.last s.to o.last o.to s.leads (all_pass items) (λ y ws k over by. not_bad files s.last s.to y ws k file offset s.bad over) o.leads (all_pass all)
-      (λ y ws k over by. not_bad files o.last o.to y ws k other elsewhere o.bad over) in
-      same_bad files s.last o.last s.to o.to file other offset elsewhere same.volumes_are same.offset_is s.bad o.bad
-
-  value_apart : (pmid : ℕ) (t : Moment) (x : Option (Moment × ValueSet)) (file : FileId) (offset : ℕ) → IsValueAt files volumes pmid t x → IsWholeFault files volumes (NotArchive file offset) → ⊥
-  value_apart pmid t x file offset one (items, s) = never_bad files items one.items volumes 132 s.last s.to one.all.last one.all.to file offset s.leads s.bad one.all.leads one.all.ends
-
 -- ---- the laws
 
 pub at_answers_once : (files : Files) (r : Loaded) (t : Moment) → AnswersOnce (IsAtFrom files r.volumes t (at_begin r t)) (λ file offset. IsAtFault files r.volumes t (at_begin r t) (NotArchive file offset))
@@ -207,11 +182,4 @@ range_answers_once files r from to = record {
   found = λ xs ys. range_once files r.volumes from to (range_begin r from) xs ys;
   stops = λ file other offset elsewhere. range_stops files r.volumes to (range_begin r from) file other offset elsewhere;
   apart = λ xs file offset. range_apart files r.volumes from to (range_begin r from) xs file offset;
-}
-
-pub value_answers_once : (files : Files) (r : Loaded) (pmid : ℕ) (t : Moment) → AnswersOnce (IsValueAt files r.volumes pmid t) (λ file offset. IsWholeFault files r.volumes (NotArchive file offset))
-value_answers_once files r pmid t = record {
-  found = λ x y. value_found files r.volumes pmid t x y;
-  stops = λ file other offset elsewhere one also. whole_stops files r.volumes file other offset elsewhere one.0 also.0 one.1 also.1;
-  apart = λ x file offset. value_apart files r.volumes pmid t x file offset;
 }

@@ -15,9 +15,10 @@ use Rattle.pcp_model.specs.Payload.{IsItem}
 use Rattle.archive_loading.specs.Standing.{ItemStands}
 use Rattle.archive_reader.specs.Laws.{IsReadAs}
 use Rattle.archive_loading.specs.Loaded.{Loaded, IsOver, contents_with, IsLabelled, IsHeaded, Rises, IsLabelledArchive, IsKeptOf, numbers}
-use Rattle.archive_reader.specs.Walks.{next_volumes, next_offset, StandsNext, StepsOver, EndsThere, IsEnd, Leads, AllFrom}
+use Rattle.archive_reader.specs.Walks.{next_offset, StandsNext, EndsThere, IsEnd, Leads, AllFrom}
 use Rattle.archive_loading.proofs.Passed.{Passed, none_passed, one_passed, file_of, none_read}
-use Rattle.archive_reader.proofs.Stepping.{next_over, next_here}
+use Rattle.archive_reader.proofs.Ends.{behind_end, nothing_stands}
+use Rattle.archive_reader.proofs.Stepping.{next_here}
 
 module _ (files : Files) (l : LabelFields) where
   last_of_all : (v : ℕ × ℕ) (at : ℕ) (xs : List Item) → IsHeaded files l v → Passed (files (Volume v.0)) at xs → IsTorn (drop at (files (Volume v.0))) → IsLastVolume (files (Volume v.0)) l v.0 xs
@@ -52,22 +53,6 @@ module _ (files : Files) (l : LabelFields) where
       let b : Built (v ∷ []) (xs ++ x ∷ []) items = in_last v items next (xs ++ x ∷ []) last to headed (one_passed (files (Volume v.0)) at next xs x p here) (subst (λ ws. Leads files ws next items last to) step.volumes more) ends in
       record { volumes = b.volumes; are = b.are; same = b.same; all = b.all ∙ append_assoc xs (x ∷ []) items }
 
-  -- over the end of a volume
-  moved : (v w : ℕ × ℕ) (ws : List (ℕ × ℕ)) (items : List Item) (at : ℕ) (last : List (ℕ × ℕ)) (to : ℕ) → at ≡ v.1 → Leads files (v ∷ w ∷ ws) at items last to → IsEnd files last to → AllFrom files (w ∷ ws) 132 items
-  moved v w ws [] at last to is leads ends =
-      let over = next_over v w ws at is in
-      let there : IsEnd files (v ∷ w ∷ ws) at = subst (λ o. IsEnd files (v ∷ w ∷ ws) o) leads.1 (subst (λ vs. IsEnd files vs to) leads.0 ends) in
-      record {
-        last = w ∷ ws;
-        to = 132;
-        leads = (refl, refl);
-        ends = subst (λ o. EndsThere files (next_volumes (w ∷ ws) 132) o) over.1 (subst (λ vs. EndsThere files vs (next_offset (v ∷ w ∷ ws) at)) over.0 there);
-      }
-  moved v w ws (x ∷ items) at last to is (us, next, step, more) ends =
-      let over = next_over v w ws at is in
-      let over_step : StepsOver files (w ∷ ws) 132 x us next = record { volumes = step.volumes ∙ over.0; stands = subst (λ o. StandsNext files us o x next) over.1 step.stands } in
-      record { last = last; to = to; leads = (us, next, over_step, more); ends = ends }
-
   at_end : (v w : ℕ × ℕ) (ws : List (ℕ × ℕ)) (then_ : (items : List Item) → AllFrom files (w ∷ ws) 132 items → Built (w ∷ ws) [] items) (items : List Item) (at : ℕ) (xs : List Item)
       → IsHeaded files l v → v.0 < w.0 → IsHeaded files l w → Passed (files (Volume v.0)) at xs → at ≡ v.1 → AllFrom files (w ∷ ws) 132 items → Built (v ∷ w ∷ ws) xs items
   at_end v w ws then_ items at xs headed lt next_headed p end a =
@@ -82,9 +67,9 @@ module _ (files : Files) (l : LabelFields) where
   in_volume : (items : List Item) (b : Bool) (v w : ℕ × ℕ) (ws : List (ℕ × ℕ)) (then_ : (items : List Item) → AllFrom files (w ∷ ws) 132 items → Built (w ∷ ws) [] items) (at : ℕ) (xs : List Item) (last : List (ℕ × ℕ)) (to : ℕ)
       → IsHeaded files l v → v.0 < w.0 → IsHeaded files l w → Passed (files (Volume v.0)) at xs → Leads files (v ∷ w ∷ ws) at items last to → IsEnd files last to → nat_eq at v.1 ≡ b → Built (v ∷ w ∷ ws) xs items
   in_volume [] true v w ws then_ at xs last to headed lt next_headed p leads ends e =
-      let end : at ≡ v.1 = eqb-true at v.1 e in at_end v w ws then_ [] at xs headed lt next_headed p end (moved v w ws [] at last to end leads ends)
+      let end : at ≡ v.1 = eqb-true at v.1 e in at_end v w ws then_ [] at xs headed lt next_headed p end (behind_end files v w ws [] at last to end leads ends)
   in_volume (x ∷ items) true v w ws then_ at xs last to headed lt next_headed p leads ends e =
-      let end : at ≡ v.1 = eqb-true at v.1 e in at_end v w ws then_ (x ∷ items) at xs headed lt next_headed p end (moved v w ws (x ∷ items) at last to end leads ends)
+      let end : at ≡ v.1 = eqb-true at v.1 e in at_end v w ws then_ (x ∷ items) at xs headed lt next_headed p end (behind_end files v w ws (x ∷ items) at last to end leads ends)
   in_volume [] false v w ws then_ at xs last to headed lt next_headed p leads ends e =
       let here = next_here v w ws at (λ same. not_both (nat_eq at v.1) (eq-eqb at v.1 same) e) in
       let there : IsEnd files (v ∷ w ∷ ws) at = subst (λ o. IsEnd files (v ∷ w ∷ ws) o) leads.1 (subst (λ vs. IsEnd files vs to) leads.0 ends) in
@@ -109,14 +94,6 @@ index_kept : (bytes : List ℕ) (l : LabelFields) (records : List MetaRecord) (e
 index_kept bytes l records entries volumes (inl none) = inl none
 index_kept bytes l records entries volumes (inr has) = inr (record { head = has.head; label = has.label; fit = has.fit; rest = has.rest; short = has.short; is = has.is })
 
--- no record stands where there is no volume
-nothing_stands : (files : Files) (items : List Item) → AllFrom files [] 132 items → items ≡ []
-nothing_stands files items a = go items a.last a.to a.leads
-  where
-    go : (items : List Item) (last : List (ℕ × ℕ)) (to : ℕ) → Leads files [] 132 items last to → items ≡ []
-    go [] last to leads = refl
-    go (x ∷ items) last to (us, next, step, more) = absurd (subst (λ ws. StandsNext files ws 132 x next) step.volumes step.stands)
-
 with_volumes : (files : Files) (l : LabelFields) (records : List MetaRecord) (entries : List Entry) (vs : List (ℕ × ℕ)) (items : List Item) → IsLabelledArchive files l records entries vs → Built files l vs [] items → IsReadAs files records items
 with_volumes files l records entries vs items kept b = record {
   reading = ArchiveReading.archive (contents_with l records entries b.volumes);
@@ -133,10 +110,10 @@ with_volumes files l records entries vs items kept b = record {
 
 pub is_read : (files : Files) (label : Option LabelFields) (records : List MetaRecord) (entries : List Entry) (vs : List (ℕ × ℕ)) (items : List Item) → IsKeptOf files label records entries vs → AllFrom files vs 132 items → IsReadAs files records items
 is_read files None records entries vs items kept a =
-    let none : items ≡ [] = nothing_stands files items (subst (λ ws. AllFrom files ws 132 items) kept.3 a) in
+    let none : items ≡ [] = let b : AllFrom files [] 132 items = subst (λ ws. AllFrom files ws 132 items) kept.3 a in nothing_stands files items 132 b.last b.to b.leads in
     record { reading = ArchiveReading.nothing; is = kept.0; scan_is = sym none; records_are = sym kept.1 }
 is_read files (Some l) records entries [] items kept a =
-    let none : items ≡ [] = nothing_stands files items a in
+    let none : items ≡ [] = nothing_stands files items 132 a.last a.to a.leads in
     with_volumes files l records entries [] items kept (record { volumes = []; are = tt; same = refl; all = sym none })
 is_read files (Some l) records entries (v ∷ vs) items kept a = with_volumes files l records entries (v ∷ vs) items kept (built files l v vs kept.labelled.0 kept.labelled.1 items a)
 

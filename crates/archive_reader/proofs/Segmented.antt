@@ -34,7 +34,7 @@ same_item bytes at next other x y s t =
     let payload : s.payload ≡ t.payload = sym e.payload_is ∙ ap (λ n. slice_range bytes (at + 4) (n - 4)) behind ∙ f.payload_is in
     record { item = one_item s.payload x y s.stands.fits s.reads (subst (λ p. IsItem p y) (sym payload) t.reads); behind = behind }
 
-same_there : (files : Files) (us : List (ℕ × ℕ)) (at next other : ℕ) (x y : Item) → StandsNext files us at x next → StandsNext files us at y other → SameNext x y next other
+pub same_there : (files : Files) (us : List (ℕ × ℕ)) (at next other : ℕ) (x y : Item) → StandsNext files us at x next → StandsNext files us at y other → SameNext x y next other
 same_there files [] at next other x y s t = absurd s
 same_there files (u ∷ us) at next other x y s t = same_item (files (Volume u.0)) at next other x y s t
 
@@ -43,7 +43,7 @@ pub same_step : (files : Files) (vs : List (ℕ × ℕ)) (at : ℕ) (x y : Item)
 same_step files vs at x y us ws next other s t =
     same_there files (next_volumes vs at) (next_offset vs at) next other x y (subst (λ l. StandsNext files l (next_offset vs at) x next) s.volumes s.stands) (subst (λ l. StandsNext files l (next_offset vs at) y other) t.volumes t.stands)
 
-no_step_there : (files : Files) (us : List (ℕ × ℕ)) (at : ℕ) (x : Item) (next : ℕ) → EndsThere files us at → StandsNext files us at x next → ⊥
+pub no_step_there : (files : Files) (us : List (ℕ × ℕ)) (at : ℕ) (x : Item) (next : ℕ) → EndsThere files us at → StandsNext files us at x next → ⊥
 no_step_there files [] at x next end s = s
 no_step_there files (u ∷ []) at x next end s = torn_no_item (files (Volume u.0)) at end next x s
 no_step_there files (u ∷ w ∷ us) at x next end s = end
@@ -51,7 +51,7 @@ no_step_there files (u ∷ w ∷ us) at x next end s = end
 pub no_step : (files : Files) (vs : List (ℕ × ℕ)) (at : ℕ) (x : Item) (us : List (ℕ × ℕ)) (next : ℕ) → IsEnd files vs at → StepsOver files vs at x us next → ⊥
 no_step files vs at x us next end s = no_step_there files (next_volumes vs at) (next_offset vs at) x next end (subst (λ l. StandsNext files l (next_offset vs at) x next) s.volumes s.stands)
 
-bad_there : (files : Files) (us : List (ℕ × ℕ)) (at : ℕ) (x : Item) (next : ℕ) (file : FileId) (offset : ℕ) → IsBadThere files us at file offset → StandsNext files us at x next → ⊥
+pub bad_there : (files : Files) (us : List (ℕ × ℕ)) (at : ℕ) (x : Item) (next : ℕ) (file : FileId) (offset : ℕ) → IsBadThere files us at file offset → StandsNext files us at x next → ⊥
 bad_there files [] at x next file offset bad s = bad
 bad_there files (u ∷ us) at x next file offset bad s = bad.2 next x s
 

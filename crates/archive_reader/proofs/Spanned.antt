@@ -116,8 +116,12 @@ range_more from to found x more by is items (all, same) = (one_by to items x by 
 abbrev pub LastSoFar : Moment → Option Item → List Item → Type 0
 LastSoFar t found items = NoItemAfter t items × (found ≡ last_of items)
 
-pub last_more : (t : Moment) (found : Option Item) (x : Item) → is_after t x ≡ false → (items : List Item) → LastSoFar t found items → LastSoFar t (Some x) (items ++ x ∷ [])
-last_more t found x by items (all, same) = (one_by t items x by all, sym (one_last items x))
+pub last_more : (t : Moment) (found : Option Item) (x last : Item) → last ≡ x → is_after t x ≡ false → (items : List Item) → LastSoFar t found items → LastSoFar t (Some last) (items ++ x ∷ [])
+last_more t found x last is by items (all, same) = (one_by t items x by all, ap Some is ∙ sym (one_last items x))
+
+-- nothing is kept
+abbrev pub Passed : List Item → Type 0
+Passed items = Unit {0}
 
 -- ---- so far
 

@@ -3,6 +3,7 @@ use Rattle.std.proofs.Common.{zero, suc, ◌≡◌, ◌≢◌, inl, inr, ℕ, �
 use Rattle.std.proofs.lemmas.Bool.{lt-ltb, le-ltb}
 use Rattle.std.proofs.lemmas.List.{drop_all, length-drop}
 use Rattle.std.specs.List.{AllByRecursion}
+use Rattle.std.specs.List.Sorted.{IsNonDecreasingBy}
 use Rattle.std.specs.Prelude.{if◌then◌else◌, nat_eq, get_or, IfOk}
 use Rattle.pcp_base.specs.declared.file.FileId.TheVariants.{Volume}
 use Rattle.pcp_base.specs.declared.result.Item.{Item}
@@ -24,16 +25,31 @@ from_skips n v vs lt = ap (λ (b : Bool). if b then volumes_from n vs else v ∷
 pub from_stops : (n : ℕ) (v : ℕ × ℕ) (vs : List (ℕ × ℕ)) → n ≤ v.0 → volumes_from n (v ∷ vs) ≡ v ∷ vs
 from_stops n v vs le = ap (λ (b : Bool). if b then volumes_from n vs else v ∷ vs) (le-ltb v.0 n le)
 
-under : (n : ℕ) (vs : List (ℕ × ℕ)) (i : ℕ) → AllByRecursion (λ (w : ℕ × ℕ). n < w.0) vs → i < length vs → n < (get_or vs i (0, 0)).0
-under n [] i all few = absurd (omega arith)
-under n (v ∷ vs) zero all few = all.0
-under n (v ∷ vs) (suc i) all few = under n vs i all.1 (omega arith)
+under : (n : ℕ) (vs : List (ℕ × ℕ)) (i : ℕ) (d : ℕ × ℕ) → AllByRecursion (λ (w : ℕ × ℕ). n < w.0) vs → i < length vs → n < (get_or vs i d).0
+under n [] i d all few = absurd (omega arith)
+under n (v ∷ vs) zero d all few = all.0
+under n (v ∷ vs) (suc i) d all few = under n vs i d all.1 (omega arith)
 
 -- of rising volumes those from one's number on begin with it
 pub from_own : (volumes : List (ℕ × ℕ)) (i : ℕ) → Rises volumes → i < length volumes → volumes_from (get_or volumes i (0, 0)).0 volumes ≡ drop i volumes
 from_own [] i rises few = absurd (omega arith)
 from_own (v ∷ vs) zero rises few = from_stops v.0 v vs (omega arith)
-from_own (v ∷ vs) (suc i) rises few = from_skips (get_or vs i (0, 0)).0 v vs (under v.0 vs i rises.0 (omega arith)) ∙ from_own vs i rises.1 (omega arith)
+from_own (v ∷ vs) (suc i) rises few = from_skips (get_or vs i (0, 0)).0 v vs (under v.0 vs i (0, 0) rises.0 (omega arith)) ∙ from_own vs i rises.1 (omega arith)
+
+-- a number parts rising volumes
+pub rising : (volumes : List (ℕ × ℕ)) → Rises volumes → IsNonDecreasingBy (λ (v : ℕ × ℕ). v.0) volumes
+rising [] rises i j d le few = absurd (omega (arith, few))
+rising (v ∷ vs) rises zero zero d le few = omega arith
+rising (v ∷ vs) rises zero (suc j) d le few = let above : v.0 < (get_or vs j d).0 = under v.0 vs j d rises.0 (omega (arith, few)) in omega (arith, above)
+rising (v ∷ vs) rises (suc i) zero d le few = absurd (omega (arith, le))
+rising (v ∷ vs) rises (suc i) (suc j) d le few = rising vs rises.1 i j d (omega (arith, le)) (omega (arith, few))
+
+pub from_parted : (n : ℕ) (volumes : List (ℕ × ℕ)) (i : ℕ) → i ≤ length volumes → ((k : ℕ) (d : ℕ × ℕ) → k < i → (get_or volumes k d).0 < n) → ((k : ℕ) (d : ℕ × ℕ) → i ≤ k → k < length volumes → n ≤ (get_or volumes k d).0)
+    → drop i volumes ≡ volumes_from n volumes
+from_parted n [] i few below above = drop_all i [] (omega arith)
+from_parted n (v ∷ vs) zero few below above = sym (from_stops n v vs (above 0 v (omega arith) (omega arith)))
+from_parted n (v ∷ vs) (suc i) few below above =
+    from_parted n vs i (omega (arith, few)) (λ k d lt. below (suc k) d (omega (arith, lt))) (λ k d le lt. above (suc k) d (omega (arith, le)) (omega (arith, lt))) ∙ sym (from_skips n v vs (below 0 v (omega arith)))
 
 -- ---- over the ends of volumes
 

@@ -7,7 +7,7 @@ use Rattle.archive_loading.specs.LoadFaults.{NotLoaded}
 use Rattle.archive_loading.specs.Loaded.{Loaded, IsOver}
 use Rattle.archive_reader.specs.declared.fault.ReaderFault.TheVariants.{NotArchive}
 use Rattle.archive_reader.specs.Asked.{IsAtFrom, IsAtFault, IsRangeFrom, IsRangeFault, at_begin, range_begin}
-use Rattle.archive_reader.specs.Values.{IsValueAt, IsWholeFault}
+use Rattle.archive_reader.specs.Values.{IsValueAt, IsValueFault}
 
 -- files are loaded as one archive, and no place of files that are loaded fits none
 pub record LoadsOnce (files : Files) : Type 0 where
@@ -33,4 +33,4 @@ RangeAnswersOnce = (files : Files) (r : Loaded) (from to : Moment)
 
 abbrev pub ValueAnswersOnce : Type 0
 ValueAnswersOnce = (files : Files) (r : Loaded) (pmid : ℕ) (t : Moment)
-    → AnswersOnce (IsValueAt files r.volumes pmid t) (λ file offset. IsWholeFault files r.volumes (NotArchive file offset))
+    → AnswersOnce (IsValueAt files r.volumes pmid t) (λ file offset. IsValueFault files r.volumes pmid t (NotArchive file offset))

@@ -15,7 +15,7 @@ use Rattle.archive_reader.specs.Asked.{IsAtFrom, IsAtFault, IsRangeFrom, IsRange
 use Rattle.archive_loading.specs.LoadFaults.{NotLoaded}
 use Rattle.archive_loading.specs.Loaded.{Loaded, IsOver}
 use Rattle.archive_reader.specs.Searches.{at, between}
-use Rattle.archive_reader.specs.Values.{IsValueAt, IsWholeFault, value_at}
+use Rattle.archive_reader.specs.Values.{IsValueAt, IsValueFault, value_at}
 use Rattle.archive_reader.specs.Walks.{Leads, IsBad, AllFrom}
 
 -- a readable archive stops at no place
@@ -57,7 +57,7 @@ SoundFindsRange = (files : Files) (reading : ArchiveReading) (r : Loaded) (from 
 -- Over a readable archive a metric's last values are those of the scan, and no bytes are refused.
 pub record FindsValue (files : Files) (reading : ArchiveReading) (r : Loaded) (pmid : ℕ) (t : Moment) : Type 0 where
   pub found : (x : Option (Moment × ValueSet)) → IsValueAt files r.volumes pmid t x → x ≡ value_at pmid t (scan reading)
-  pub refused : (file : FileId) (offset : ℕ) → IsWholeFault files r.volumes (NotArchive file offset) → ⊥
+  pub refused : (file : FileId) (offset : ℕ) → IsValueFault files r.volumes pmid t (NotArchive file offset) → ⊥
 
 abbrev pub ReadableFindsValue : Type 0
 ReadableFindsValue = (files : Files) (reading : ArchiveReading) (r : Loaded) (pmid : ℕ) (t : Moment) → Reads files reading → IsOver files r → FindsValue files reading r pmid t

@@ -12,7 +12,7 @@ use Rattle.archive_reader.specs.declared.segments.Ahead.TheVariants.{End as Ahea
 use Rattle.archive_reader.specs.Searches.{is_after}
 use Rattle.archive_reader.specs.declared.walking.Step.{Step}
 use Rattle.archive_reader.specs.declared.walking.Step.TheVariants.{End, Bad, Item}
-use Rattle.archive_reader.specs.Walks.{StandsNext, EndsThere, IsBadThere, StepsOver, IsEnd, IsBad}
+use Rattle.archive_reader.specs.Walks.{StandsNext, EndsThere, IsBadThere, StepsOver, IsEnd, IsBad, EndsInFirst, IsFirst}
 
 -- behind the ends of volumes
 abbrev pub IsStood : Files → List (ℕ × ℕ) → List (ℕ × ℕ) → ℕ → Step → Type 0
@@ -24,6 +24,12 @@ abbrev pub IsWalked : Files → List (ℕ × ℕ) → ℕ → ℕ → Step → T
 IsWalked files volumes index at End = IsEnd files (drop index volumes) at
 IsWalked files volumes index at (Bad number offset) = IsBad files (drop index volumes) at (Volume number) offset
 IsWalked files volumes index at (Item x behind next) = StepsOver files (drop index volumes) at x (drop behind volumes) next
+
+-- within the first of these volumes
+abbrev pub IsWithin : Files → List (ℕ × ℕ) → ℕ → Step → Type 0
+IsWithin files vs at End = EndsInFirst files vs at
+IsWithin files vs at (Bad number offset) = IsFirst vs (Volume number) × IsBad files vs at (Volume number) offset
+IsWithin files vs at (Item x behind next) = StandsNext files vs at x next × StepsOver files vs at x vs next
 
 -- where it stands is a volume
 abbrev pub IsIn : List (ℕ × ℕ) → Step → Type 0

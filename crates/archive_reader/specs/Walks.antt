@@ -69,3 +69,22 @@ pub record StopsAt (files : Files) (vs : List (ℕ × ℕ)) (at : ℕ) (items : 
   pub to : ℕ
   pub leads : Leads files vs at items last to
   pub bad : IsBad files last to file offset
+
+-- ---- within the first of these volumes
+
+-- it ends there
+abbrev pub EndsInFirst : Files → List (ℕ × ℕ) → ℕ → Type 0
+EndsInFirst files [] at = Unit {0}
+EndsInFirst files (v ∷ []) at = IsTorn (drop at (files (Volume v.0)))
+EndsInFirst files (v ∷ w ∷ vs) at = at ≡ v.1
+
+-- the file is that volume
+abbrev pub IsFirst : List (ℕ × ℕ) → FileId → Type 0
+IsFirst [] file = ⊥
+IsFirst (v ∷ vs) file = file ≡ Volume v.0
+
+-- the first record that is no item's is one of its
+pub record StopsInFirst (files : Files) (vs : List (ℕ × ℕ)) (file : FileId) (offset : ℕ) : Type 0 where
+  pub items : List Item
+  pub stops : StopsAt files vs 132 items file offset
+  pub first : IsFirst vs file

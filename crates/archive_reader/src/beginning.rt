@@ -1,5 +1,6 @@
 //! Where a search by time begins.
 ghost use Rattle.std.specs.Prelude.{◌≡◌};
+ghost use Rattle.archive_loading.specs.Loaded.{Rises};
 ghost use Rattle.archive_reader.specs.Asked.{last_entry, is_entry_before, is_entry_by, length_of, first_volume, begin_of};
 
 use crate::walking::first_from;
@@ -36,6 +37,7 @@ pub fn entry_by(index: &Index, t: Stamp) -> Option<Entry>
 
 /// The length of the volume with this number, if it isn't empty.
 fn length_of(volumes: &[(u32, u64)], number: u32) -> Option<u64>
+    requires { Rises volumes.now }
     ensures { result ≡ length_of number volumes.now }
 {
     let index = first_from(volumes, number);
@@ -60,6 +62,7 @@ fn first_volume(volumes: &[(u32, u64)]) -> u32
 
 /// Where a search begins, by an entry.
 pub fn begin_of(volumes: &[(u32, u64)], entry: Option<Entry>) -> Begin
+    requires { Rises volumes.now }
     ensures { result ≡ begin_of volumes.now entry }
 {
     let Some(entry) = entry else {

@@ -8,13 +8,14 @@ ghost use Rattle.archive_loading.specs.Looks.{Looks};
 ghost use Rattle.archive_reader.specs.declared.fault.ReaderFault.TheVariants.{DiskFault};
 ghost use Rattle.archive_reader.specs.Asked.{IsSegmentFault, IsAtOn, IsAtOnFault, IsAtFrom, IsAtFault, IsBackAt, IsBackFault, last_filled, back_end};
 ghost use Rattle.archive_reader.specs.Lasts.{IsLastOn, BeginsWithin, StartsIn};
-ghost use Rattle.archive_loading.specs.Loaded.{IsMeasured, IsReachable};
+ghost use Rattle.archive_loading.specs.Loaded.{IsMeasured, IsReachable, Rises};
 ghost use Rattle.archive_reader.specs.Takes.{TakesSegment, TookLast, TakesAround, TakesAt};
+ghost use Rattle.archive_reader.specs.Searches.{is_after};
 ghost use Rattle.archive_reader.specs.Walks.{volumes_from};
 
 use crate::beginning::Begin;
 use crate::fault::ReaderFault;
-use crate::segments::{Ahead, is_after, next_ahead};
+use crate::segments::{Ahead, next_ahead};
 use crate::walking::first_from;
 use archive_loading::{Last, last_record};
 use pcp_base::{Item, Stamp};
@@ -40,14 +41,16 @@ fn last_on<D: Disk>(
     ensures cause { IfErr result (λ e. e ≡ DiskFault → Rose (D.faults disk.old) (D.faults disk.new)) }
     ensures quiet { OnOk result (D.faults disk.new ≡ D.faults disk.old) }
 {
+    let mut frame = Vec::new(alloc);
     let mut found = None;
     let mut index = index;
     let mut at = at;
     for _ in 0..u64::MAX {
-        match next_ahead(alloc, disk, volumes, index, at, t)? {
+        match next_ahead(disk, volumes, index, at, t, &mut frame)? {
             Ahead::End => return Ok(found),
             Ahead::Item(item, behind, next) => {
-                found = Some(item);
+                let last = item.to_item(alloc)?;
+                found = Some(last);
                 index = behind;
                 at = next;
             }
@@ -74,6 +77,7 @@ fn last_filled(volumes: &[(u32, u64)], count: usize) -> Option<(u32, u64)>
 
 /// Where the record before a place ends: a volume's number, and an offset.
 fn back_end(volumes: &[(u32, u64)], number: u32, offset: u64) -> Option<(u32, u64)>
+    requires { Rises volumes.now }
     ensures { result ≡ back_end volumes.now number offset }
 {
     let index = first_from(volumes, number);
@@ -84,6 +88,17 @@ fn back_end(volumes: &[(u32, u64)], number: u32, offset: u64) -> Option<(u32, u6
         return None;
     }
     Some((volumes[index].0, offset))
+}
+
+/// Whether an item is stamped after a moment.
+fn is_after(item: &Item, t: Stamp) -> bool
+    ensures { result ≡ is_after t item.now }
+{
+    let stamp = match item {
+        Item::Sample(answer) => answer.stamp,
+        Item::Mark(stamp) => *stamp,
+    };
+    t.microseconds() < stamp.microseconds()
 }
 
 /// The item of the record that ends there, unless it is after the moment.
@@ -133,6 +148,7 @@ fn at_on<D: Disk>(
     t: Stamp,
 ) -> Result<Option<Item>, ReaderFault>
     requires numbered { IsReachable volumes.now }
+    requires rises { Rises volumes.now }
     requires begins { (offset ≡ 132) ⊎ StartsIn (volumes_from number volumes.now) offset }
     requires lengths { D.tells → AllByRecursion (IsMeasured (contents_of (D.held disk.old))) volumes.now }
     ensures found { D.tells → IfOk result (IsAtOn (contents_of (D.held disk.old)) (volumes_from number volumes.now) offset (back_end volumes.now number offset) t) }
@@ -158,6 +174,7 @@ pub fn at_from<D: Disk>(
     t: Stamp,
 ) -> Result<Option<Item>, ReaderFault>
     requires numbered { IsReachable volumes.now }
+    requires rises { Rises volumes.now }
     requires begins { BeginsWithin volumes.now begin }
     requires lengths { D.tells → AllByRecursion (IsMeasured (contents_of (D.held disk.old))) volumes.now }
     ensures found { D.tells → IfOk result (IsAtFrom (contents_of (D.held disk.old)) volumes.now t begin) }

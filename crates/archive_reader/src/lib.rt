@@ -13,6 +13,7 @@ mod reader;
 mod segments;
 mod values;
 mod walking;
+mod whole;
 
 pub use fault::ReaderFault;
 pub use laws::{

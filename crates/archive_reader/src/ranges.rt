@@ -6,25 +6,32 @@ ghost use Rattle.pcp_outside.specs.Causes.{Rose};
 ghost use Rattle.archive_loading.specs.Looks.{Looks};
 ghost use Rattle.archive_reader.specs.declared.fault.ReaderFault.TheVariants.{DiskFault};
 ghost use Rattle.archive_reader.specs.Asked.{IsRangeOn, IsSegmentFault, IsRangeFrom, IsRangeFault, kept_from};
-ghost use Rattle.archive_loading.specs.Loaded.{IsMeasured, IsReachable};
+ghost use Rattle.archive_loading.specs.Loaded.{IsMeasured, IsReachable, Rises};
 ghost use Rattle.archive_reader.specs.Takes.{TakesSegment, TakesRange};
 
 use crate::beginning::Begin;
 use crate::fault::ReaderFault;
 use crate::segments::{Ahead, is_before, next_ahead};
 use crate::walking::first_from;
+use archive_volume::ItemView;
 use pcp_base::{Item, List, NoMemory, Stamp};
 use pcp_outside::{Disk, FileId};
 use std::alloc::Global;
 
-fn kept(found: List<Item>, item: Item, from: Stamp) -> Result<List<Item>, NoMemory>
-    ensures { IfOk result (λ all. all ≡ kept_from from found item) }
+/// An item, unless it is before the range, behind those found.
+fn kept(
+    alloc: Global,
+    found: List<Item>,
+    item: &ItemView<'_>,
+    from: Stamp,
+) -> Result<List<Item>, NoMemory>
+    ensures { IfOk result (λ all. all ≡ kept_from from found item.now) }
 {
     let mut found = found;
-    if is_before(&item, from) {
+    if is_before(item, from) {
         return Ok(found);
     }
-    found.push(item)?;
+    found.push(item.to_item(alloc)?)?;
     Ok(found)
 }
 
@@ -48,14 +55,15 @@ fn range_on<D: Disk>(
     ensures cause { IfErr result (λ e. e ≡ DiskFault → Rose (D.faults disk.old) (D.faults disk.new)) }
     ensures quiet { OnOk result (D.faults disk.new ≡ D.faults disk.old) }
 {
+    let mut frame = Vec::new(alloc);
     let mut found = List::empty(alloc);
     let mut index = index;
     let mut at = at;
     for _ in 0..u64::MAX {
-        match next_ahead(alloc, disk, volumes, index, at, to)? {
+        match next_ahead(disk, volumes, index, at, to, &mut frame)? {
             Ahead::End => return Ok(found),
             Ahead::Item(item, behind, next) => {
-                found = kept(found, item, from)?;
+                found = kept(alloc, found, &item, from)?;
                 index = behind;
                 at = next;
             }
@@ -74,6 +82,7 @@ pub fn range_from<D: Disk>(
     to: Stamp,
 ) -> Result<List<Item>, ReaderFault>
     requires numbered { IsReachable volumes.now }
+    requires rises { Rises volumes.now }
     requires lengths { D.tells → AllByRecursion (IsMeasured (contents_of (D.held disk.old))) volumes.now }
     ensures found { D.tells → IfOk result (IsRangeFrom (contents_of (D.held disk.old)) volumes.now from to begin) }
     ensures fault { D.tells → IfErr result (IsRangeFault (contents_of (D.held disk.old)) volumes.now to begin) }

@@ -15,7 +15,7 @@ ghost use Rattle.archive_loading.specs.Takes.{TookLabels};
 ghost use Rattle.archive_reader.specs.LoadFaults.{IsFilesFault, IsLoadFault};
 ghost use Rattle.archive_reader.specs.Asked.{IsRangeFrom, IsRangeFault, range_begin, IsAtFrom, IsAtFault, at_begin};
 ghost use Rattle.archive_reader.specs.Takes.{TakesRange, TakesAt};
-ghost use Rattle.archive_reader.specs.Values.{IsValueAt, IsWholeFault};
+ghost use Rattle.archive_reader.specs.Values.{IsValueAt, IsValueFault, AllRead, IsWholeFault};
 ghost use Rattle.archive_reader.specs.Nexts.{IsNext, IsNextFault};
 ghost use Rattle.archive_reader.specs.Walks.{volumes_from};
 
@@ -26,11 +26,13 @@ use crate::places::Place;
 use crate::ranges::range_from;
 use crate::values::value_from;
 use crate::walking::{Step, first_from, walk};
+use crate::whole::read_each;
 use archive_loading::{
     IndexPart, MetaPart, VolumesPart, is_alone, load_index, load_meta, load_volumes, no_entries,
     wrapped_file,
 };
 use archive_meta::MetaState;
+use archive_volume::ItemView;
 use pcp_base::{Item, List, Pmid, Stamp, ValueSet};
 use pcp_model::Label;
 use pcp_outside::{Disk, FileId};
@@ -49,13 +51,13 @@ pub struct ArchiveReader {
 }
 
 impl Model for ArchiveReader {
-    ghost use Rattle.archive_loading.specs.Loaded.{Loaded, IsReachable};
+    ghost use Rattle.archive_loading.specs.Loaded.{Loaded, IsReachable, Rises};
 
     ghost Value = { Loaded };
 
     ghost view = { λ a. record { label = a.label; records = a.meta; entries = a.index; volumes = a.volumes } };
 
-    ghost invariant = { λ a. IsReachable a.volumes };
+    ghost invariant = { λ a. IsReachable a.volumes × Rises a.volumes };
 }
 
 /// Whether some volume has as many bytes as a label.
@@ -196,15 +198,15 @@ fn first_number(volumes: &[(u32, u64)]) -> u32
 }
 
 /// The next record's item from a place on.
-fn item_from<D: Disk>(
-    alloc: Global,
+fn view_from<'a, D: Disk>(
     disk: &mut D,
     volumes: &[(u32, u64)],
     place: Place,
-) -> Result<Option<(Item, Place)>, ReaderFault>
+    frame: &'a mut Vec<u8>,
+) -> Result<Option<(ItemView<'a>, Place)>, ReaderFault>
     requires numbered { IsReachable volumes.now }
     requires lengths { D.tells → AllByRecursion (IsMeasured (contents_of (D.held disk.old))) volumes.now }
-    requires rises { D.tells → Rises volumes.now }
+    requires rises { Rises volumes.now }
     ensures found { D.tells → IfOk result (IsNext (contents_of (D.held disk.old)) volumes.now place) }
     ensures fault { D.tells → IfErr result (IsNextFault (contents_of (D.held disk.old)) volumes.now place) }
     ensures looks { Looks D.Disk disk.old disk.new }
@@ -212,7 +214,7 @@ fn item_from<D: Disk>(
     ensures quiet { OnOk result (D.faults disk.new ≡ D.faults disk.old) }
 {
     let index = first_from(volumes, place.volume);
-    match walk(alloc, disk, volumes, index, place.offset)? {
+    match walk(disk, volumes, index, place.offset, frame)? {
         Step::Item(item, behind, offset) => {
             let volume = volumes[behind].0;
             Ok(Some((item, Place { volume, offset })))
@@ -284,6 +286,24 @@ impl ArchiveReader {
         }
     }
 
+    /// The item of the next record from a place on, looked at where it was taken: in a buffer, of which it replaces what was there.
+    /// A call takes no memory but the buffer's, which grows to the longest record. Else it answers as `item_at`.
+    pub fn view_at<'a, D: Disk>(
+        &self,
+        disk: &mut D,
+        place: Place,
+        frame: &'a mut Vec<u8>,
+    ) -> Result<Option<(ItemView<'a>, Place)>, ReaderFault>
+        requires { D.tells → IsOver (contents_of (D.held disk.old)) self.now }
+        ensures found { D.tells → IfOk result (IsNext (contents_of (D.held disk.old)) self.now.volumes place) }
+        ensures fault { D.tells → IfErr result (IsNextFault (contents_of (D.held disk.old)) self.now.volumes place) }
+        ensures looks { Looks D.Disk disk.old disk.new }
+        ensures cause { IfErr result (λ e. e ≡ DiskFault → Rose (D.faults disk.old) (D.faults disk.new)) }
+        ensures quiet { OnOk result (D.faults disk.new ≡ D.faults disk.old) }
+    {
+        view_from(disk, self.volumes.as_slice(), place, frame)
+    }
+
     /// The item of the next record from a place on, over the ends of volumes, and the place behind it; `None` where no whole
     /// record follows. The place is `start` or was answered by this reader, and the disk is that of `load`, unchanged.
     pub fn item_at<D: Disk>(
@@ -300,7 +320,11 @@ impl ArchiveReader {
         ensures cause { IfErr result (λ e. e ≡ DiskFault → Rose (D.faults disk.old) (D.faults disk.new)) }
         ensures quiet { OnOk result (D.faults disk.new ≡ D.faults disk.old) }
     {
-        item_from(alloc, disk, self.volumes.as_slice(), place)
+        let mut frame = Vec::new(alloc);
+        match self.view_at(disk, place, &mut frame)? {
+            Some((item, next)) => Ok(Some((item.to_item(alloc)?, next))),
+            None => Ok(None),
+        }
     }
 
     /// The items stamped neither before the first moment nor after the second, of the records from where the index says up to the
@@ -353,7 +377,8 @@ impl ArchiveReader {
     }
 
     /// The stamp and the values of a metric in the last item not after a moment in which it has values; `None` where there is none.
-    /// All records are read, and each has to be an item's. The disk is that of `load`, unchanged.
+    /// The volumes are read from the last one down, up to the first that has such an item; each of their records has to be an
+    /// item's. The disk is that of `load`, unchanged.
     pub fn value_at<D: Disk>(
         &mut self,
         alloc: Global,
@@ -364,11 +389,23 @@ impl ArchiveReader {
         requires { D.tells → IsOver (contents_of (D.held disk.old)) self.old }
         ensures same { self.new ≡ self.old }
         ensures found { D.tells → IfOk result (IsValueAt (contents_of (D.held disk.old)) self.old.volumes pmid t) }
-        ensures fault { D.tells → IfErr result (IsWholeFault (contents_of (D.held disk.old)) self.old.volumes) }
+        ensures fault { D.tells → IfErr result (IsValueFault (contents_of (D.held disk.old)) self.old.volumes pmid t) }
         ensures looks { Looks D.Disk disk.old disk.new }
         ensures cause { IfErr result (λ e. e ≡ DiskFault → Rose (D.faults disk.old) (D.faults disk.new)) }
         ensures quiet { OnOk result (D.faults disk.new ≡ D.faults disk.old) }
     {
         value_from(alloc, disk, self.volumes.as_slice(), pmid, t)
+    }
+
+    /// Reads each record of all volumes, which has to be an item's. The disk is that of `load`, unchanged.
+    pub fn read_all<D: Disk>(&self, alloc: Global, disk: &mut D) -> Result<(), ReaderFault>
+        requires { D.tells → IsOver (contents_of (D.held disk.old)) self.now }
+        ensures read { D.tells → OnOk result (AllRead (contents_of (D.held disk.old)) self.now.volumes) }
+        ensures fault { D.tells → IfErr result (IsWholeFault (contents_of (D.held disk.old)) self.now.volumes) }
+        ensures looks { Looks D.Disk disk.old disk.new }
+        ensures cause { IfErr result (λ e. e ≡ DiskFault → Rose (D.faults disk.old) (D.faults disk.new)) }
+        ensures quiet { OnOk result (D.faults disk.new ≡ D.faults disk.old) }
+    {
+        read_each(alloc, disk, self.volumes.as_slice())
     }
 }

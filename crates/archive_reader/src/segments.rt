@@ -2,7 +2,6 @@
 ghost use Rattle.std.specs.Prelude.{◌≡◌, ◌≤◌, length, drop, IfOk, IfErr, OnOk};
 ghost use Rattle.std.specs.List.{AllByRecursion};
 ghost use Rattle.pcp_model.specs.Disk.{contents_of};
-ghost use Rattle.pcp_model.specs.Payload.{stamp_of};
 ghost use Rattle.pcp_outside.specs.Causes.{Rose};
 ghost use Rattle.archive_loading.specs.Looks.{Looks};
 ghost use Rattle.archive_reader.specs.declared.fault.ReaderFault.TheVariants.{DiskFault};
@@ -13,51 +12,42 @@ ghost use Rattle.archive_reader.specs.Takes.{TookNext};
 
 use crate::fault::ReaderFault;
 use crate::walking::{Step, walk};
-use pcp_base::{Item, Stamp};
+use archive_volume::ItemView;
+use pcp_base::Stamp;
 use pcp_outside::{Disk, FileId};
-use std::alloc::Global;
 
 /// What follows a place in a segment.
 #[derive(Drop)]
-pub enum Ahead {
+pub enum Ahead<'a> {
     /// The segment ends.
     End,
-    /// An item; behind it a place: how many volumes are behind, and an offset.
-    Item(Item, usize, u64),
-}
-
-fn stamp_of(item: &Item) -> Stamp
-    ensures { result ≡ stamp_of item.now }
-{
-    match item {
-        Item::Sample(answer) => answer.stamp,
-        Item::Mark(stamp) => *stamp,
-    }
+    /// An item, looked at in the buffer; behind it a place: how many volumes are behind, and an offset.
+    Item(ItemView<'a>, usize, u64),
 }
 
 /// Whether an item is stamped after a moment.
-pub fn is_after(item: &Item, t: Stamp) -> bool
+pub fn is_after(item: &ItemView<'_>, t: Stamp) -> bool
     ensures { result ≡ is_after t item.now }
 {
-    t.microseconds() < stamp_of(item).microseconds()
+    t.microseconds() < item.stamp().microseconds()
 }
 
 /// Whether an item is stamped before a moment.
-pub fn is_before(item: &Item, t: Stamp) -> bool
+pub fn is_before(item: &ItemView<'_>, t: Stamp) -> bool
     ensures { result ≡ is_before t item.now }
 {
-    stamp_of(item).microseconds() < t.microseconds()
+    item.stamp().microseconds() < t.microseconds()
 }
 
 /// The next item of a segment.
-pub fn next_ahead<D: Disk>(
-    alloc: Global,
+pub fn next_ahead<'a, D: Disk>(
     disk: &mut D,
     volumes: &[(u32, u64)],
     index: usize,
     at: u64,
     t: Stamp,
-) -> Result<Ahead, ReaderFault>
+    frame: &'a mut Vec<u8>,
+) -> Result<Ahead<'a>, ReaderFault>
     requires within { index ≤ length volumes.now }
     requires numbered { IsReachable volumes.now }
     requires lengths { D.tells → AllByRecursion (IsMeasured (contents_of (D.held disk.old))) volumes.now }
@@ -69,7 +59,7 @@ pub fn next_ahead<D: Disk>(
     ensures cause { IfErr result (λ e. e ≡ DiskFault → Rose (D.faults disk.old) (D.faults disk.new)) }
     ensures quiet { OnOk result (D.faults disk.new ≡ D.faults disk.old) }
 {
-    match walk(alloc, disk, volumes, index, at)? {
+    match walk(disk, volumes, index, at, frame)? {
         Step::End => Ok(Ahead::End),
         Step::Bad(number, offset) => Err(ReaderFault::NotArchive {
             file: FileId::Volume(number),

@@ -30,7 +30,7 @@ pub enum VolumeRead {
     Stops(u64),
 }
 
-/// Counts the records behind the label of a volume of this length.
+/// Counts the records behind the label of a volume of this length, each taken into one buffer.
 fn read_items<D: Disk>(
     alloc: Global,
     disk: &mut D,
@@ -47,14 +47,16 @@ fn read_items<D: Disk>(
     ensures quiet { OnOk result (D.faults disk.new ≡ D.faults disk.old) }
 {
     let mut at = 132;
+    let mut frame = Vec::new(alloc);
     while at < end {
-        match next_record(alloc, disk, number, end, at)? {
-            Next::End => return Ok(ItemsRead::Whole(at)),
-            Next::Bad => return Ok(ItemsRead::Stops(at)),
-            Next::Item(item, next) => {
+        match next_record(disk, number, end, at, &mut frame) {
+            Ok(Next::End) => return Ok(ItemsRead::Whole(at)),
+            Ok(Next::Bad) => return Ok(ItemsRead::Stops(at)),
+            Ok(Next::Item(item, next)) => {
                 tally.count(&item)?;
                 at = next;
             }
+            Err(lack) => return Err(lack),
         }
     }
     Ok(ItemsRead::Whole(at))

@@ -1,11 +1,11 @@
 //! The latest stamp so far, and how many items.
 ghost use Rattle.std.specs.Prelude.{◌≡◌, ◌+◌, [], ◌∷◌, ◌++◌, take, option_to_list, OnOk};
-ghost use Rattle.pcp_model.specs.Payload.{stamp_of};
 ghost use Rattle.archive_recovery.specs.Counts.{CountsMore};
 ghost use Rattle.archive_recovery.specs.Stamps.{entry_stamps, IsLatestOn};
 
 use archive_loading::{later, later_by};
-use pcp_base::{Item, NoMemory, Stamp};
+use archive_volume::ItemView;
+use pcp_base::{NoMemory, Stamp};
 use temporal_index::Index;
 
 /// How many items there are so far, and the latest stamp of them, of the index's entries and of domains' records.
@@ -13,16 +13,6 @@ use temporal_index::Index;
 pub struct Tally {
     pub items: u64,
     pub last: Option<Stamp>,
-}
-
-/// An item's stamp.
-fn stamp_of(item: &Item) -> Stamp
-    ensures { result ≡ stamp_of item.now }
-{
-    match item {
-        Item::Sample(result) => result.stamp,
-        Item::Mark(stamp) => *stamp,
-    }
 }
 
 /// The stamp of an index's entry at a position, if there is one.
@@ -48,14 +38,14 @@ pub(crate) fn later_entry(last: Option<Stamp>, index: &Index) -> Option<Stamp>
 
 impl Tally {
     /// One item more.
-    pub(crate) fn count(&mut self, item: &Item) -> Result<(), NoMemory>
+    pub(crate) fn count(&mut self, item: &ItemView<'_>) -> Result<(), NoMemory>
         ensures { OnOk result (CountsMore self.old (item.now ∷ []) self.new) }
     {
         if self.items == u64::MAX {
             return Err(NoMemory);
         }
         self.items += 1;
-        self.last = Some(later(self.last, stamp_of(item)));
+        self.last = Some(later(self.last, item.stamp()));
         Ok(())
     }
 }

@@ -77,3 +77,9 @@ pub item_only : (bytes : List ℕ) (read : Result PmResult FormFault) → ((r : 
 item_only bytes read only item is =
     let f = item_from bytes item is in
     subst (λ x. Gives (as_item read) (Ok x)) f.2 (as_given read f.0 (only f.0 f.1))
+
+-- what was shown of a result, as an item: where each result that the payload spells is shown, so is each item
+pub item_shown : (bytes : List ℕ) (read : Result PmResult FormFault) → ((r : PmResult) → IsPayload bytes r → read ≡ Ok r) → (item : Item) → IsItem bytes item → as_item read ≡ Ok item
+item_shown bytes read only item is =
+    let f = item_from bytes item is in
+    ap as_item (only f.0 f.1) ∙ ap (λ x. Ok x) f.2

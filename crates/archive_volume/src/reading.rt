@@ -10,7 +10,7 @@ use result_form::{FormFault, decode};
 use std::alloc::Global;
 
 /// A result as an item: one without a set is a mark.
-fn item_of(read: PmResult) -> Item
+pub fn item_of(read: PmResult) -> Item
     ensures { result ≡ item_of read }
 {
     if read.sets.is_empty() {

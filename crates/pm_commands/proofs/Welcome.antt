@@ -5,10 +5,9 @@ use Rattle.pcp_base.specs.Time.{Moment}
 use Rattle.pcp_base.specs.declared.file.FileId.{FileId}
 use Rattle.pcp_model.specs.Archive.{ArchiveReading, Reads, Readable}
 use Rattle.archive_loading.specs.Loaded.{Loaded}
+use Rattle.archive_reader.proofs.Downward.{readable_finds_value}
 use Rattle.archive_reader.proofs.Finds.{readable_stands}
 use Rattle.archive_reader.proofs.Loadable.{loads_readable}
-use Rattle.archive_reader.specs.declared.fault.ReaderFault.TheVariants as faults
-use Rattle.archive_reader.specs.Values.{IsWholeFault}
 use Rattle.pm_words.specs.declared.refusal.Refusal.{Refusal}
 use Rattle.pm_words.specs.declared.refusal.Refusal.TheVariants.{Compressed, NotArchive, Nothing}
 use Rattle.pm_words.specs.declared.words.ValueWords.{ValueWords}
@@ -39,13 +38,8 @@ good_records f reading reads r loaded (NotArchive file offset) why =
     (readable_stands f.files reading r reads loaded.over).good why.0 bad.last bad.to file offset bad.leads bad.bad
 good_records f reading reads r loaded _ why = why
 
-no_fault : (f : Found) (reading : ArchiveReading) → Reads f.files reading → (r : Loaded) → IsLoaded f r → (file : FileId) (offset : ℕ) → IsWholeFault f.files r.volumes (faults.NotArchive file offset) → ⊥
-no_fault f reading reads r loaded file offset why =
-    let bad = why.1 in
-    (readable_stands f.files reading r reads loaded.over).good why.0 bad.last bad.to file offset bad.leads bad.bad
-
 good_values : (f : Found) (reading : ArchiveReading) → Reads f.files reading → (r : Loaded) → IsLoaded f r → (asked : ValueWords) (e : Refusal) → value.IsStopped asked r f e → status_of e ≡ 11
-good_values f reading reads r loaded asked (NotArchive file offset) why = absurd (no_fault f reading reads r loaded file offset why.2)
+good_values f reading reads r loaded asked (NotArchive file offset) why = absurd ((readable_finds_value f.files reading r why.0 asked.stamp reads loaded.over).refused file offset why.2)
 good_values f reading reads r loaded asked (Nothing stamp) why = refl
 good_values f reading reads r loaded asked _ why = absurd why
 

@@ -6,8 +6,10 @@ use Rattle.pcp_base.specs.declared.result.ValueSet.{ValueSet}
 use Rattle.archive_meta.specs.Said.{metric_of_name}
 use Rattle.archive_loading.specs.Loaded.{Loaded}
 use Rattle.archive_reader.specs.Asked.{at_begin, IsAtFrom}
-use Rattle.archive_reader.specs.Values.{IsValueAt}
-use Rattle.archive_reader.proofs.Once.{at_answers_once, value_answers_once}
+use Rattle.archive_reader.specs.declared.fault.ReaderFault.TheVariants as faults
+use Rattle.archive_reader.specs.Values.{IsValueAt, IsValueFault}
+use Rattle.archive_reader.proofs.Downward.{value_answers_once}
+use Rattle.archive_reader.proofs.Once.{at_answers_once}
 use Rattle.archive_reader.proofs.OnceLoaded.{load_answers_once}
 use Rattle.pm_words.specs.declared.refusal.Refusal.{Refusal}
 use Rattle.pm_words.specs.declared.refusal.Refusal.TheVariants.{Compressed, NotArchive, Nothing}
@@ -58,7 +60,10 @@ at_said t f stamp text (inr b) said =
 
 value_else : (asked : ValueWords) (f : Found) (r : Loaded) (o : Option ℕ) → metric_of_name r.records asked.name ≡ o → value.HasNothing f r asked.stamp o → (e : Refusal) → value.IsStopped asked r f e → status_of e ≡ 11
 value_else asked f r None is none (NotArchive file offset) why = absurd (none_or_some ℕ why.0 (metric_of_name r.records asked.name) is why.1)
-value_else asked f r (Some pmid) is none (NotArchive file offset) why = absurd ((value_answers_once f.files r pmid asked.stamp).apart None file offset none.0 why.2)
+value_else asked f r (Some pmid) is none (NotArchive file offset) why =
+    let same : Some why.0 ≡ Some pmid = sym why.1 ∙ is in
+    let one : why.0 ≡ pmid = cc in
+    absurd ((value_answers_once f.files r pmid asked.stamp).apart None file offset none.0 (subst (λ (p : ℕ). IsValueFault f.files r.volumes p asked.stamp (faults.NotArchive file offset)) one why.2))
 value_else asked f r o is none (Nothing stamp) why = refl
 value_else asked f r o is none _ why = absurd why
 

@@ -12,8 +12,9 @@ use Rattle.archive_loading.specs.Looks.{Looks}
 use Rattle.archive_reader.specs.Asked.{at_begin, range_begin, IsAtFrom, IsAtFault, IsRangeFrom, IsRangeFault}
 use Rattle.archive_loading.specs.Loaded.{Loaded, IsOver}
 use Rattle.archive_reader.specs.Searches.{at as last_at, between}
-use Rattle.archive_reader.specs.Values.{IsValueAt, IsWholeFault, value_at}
-use Rattle.archive_reader.proofs.Finds.{sound_finds_last, sound_finds_range, readable_finds_value}
+use Rattle.archive_reader.specs.Values.{IsValueAt, IsValueFault, value_at}
+use Rattle.archive_reader.proofs.Downward.{readable_finds_value}
+use Rattle.archive_reader.proofs.Finds.{sound_finds_last, sound_finds_range}
 use Rattle.archive_reader.specs.declared.beginning.Begin.{Begin}
 use Rattle.archive_reader.specs.declared.beginning.Begin.TheVariants.{At, Outside}
 use Rattle.archive_reader.specs.declared.fault.ReaderFault.{ReaderFault}
@@ -76,7 +77,7 @@ module _ {D : Type 0} (g : DiskGhosts D) (r : Loaded) (a b : D) where
   range_stops from to faults.DiskFault why rose = rose refl
   range_stops from to faults.NoMemory why rose = tt
 
-  pub value_stops : (pmid : ℕ) (t : Moment) (fault : ReaderFault) → (g.tells → IsWholeFault (contents_of (g.held a)) r.volumes fault) → (fault ≡ faults.DiskFault → Rose (g.faults a) (g.faults b))
+  pub value_stops : (pmid : ℕ) (t : Moment) (fault : ReaderFault) → (g.tells → IsValueFault (contents_of (g.held a)) r.volumes pmid t fault) → (fault ≡ faults.DiskFault → Rose (g.faults a) (g.faults b))
       → TurnedAway (value.HasNoValue pmid t r) (disk_side g a b) (reader_refusal fault)
   value_stops pmid t (faults.Compressed file) why rose = λ tells. absurd (why tells)
   value_stops pmid t (faults.NotArchive file offset) why rose = λ tells. why tells

@@ -4,7 +4,7 @@ use Rattle.pcp_base.specs.Time.{Moment}
 use Rattle.pcp_base.specs.declared.result.ValueSet.{ValueSet}
 use Rattle.archive_meta.specs.Said.{metric_of_name}
 use Rattle.archive_loading.specs.Loaded.{Loaded}
-use Rattle.archive_reader.specs.Values.{IsValueAt, IsWholeFault, value_at}
+use Rattle.archive_reader.specs.Values.{IsValueAt, IsValueFault, value_at}
 use Rattle.archive_reader.specs.declared.fault.ReaderFault.TheVariants as faults
 use Rattle.pm_print.specs.Items.{set_text}
 use Rattle.pm_words.specs.declared.refusal.Refusal.{Refusal}
@@ -21,7 +21,7 @@ HasValue found r pmid t text = (v : Moment × ValueSet) × IsValueAt found.files
 
 -- a record is no item's, or the metric has no values at the moment
 abbrev pub HasNoValue : ℕ → Moment → Loaded → Found → Refusal → Type 0
-HasNoValue pmid t r found (NotArchive file offset) = IsWholeFault found.files r.volumes (faults.NotArchive file offset)
+HasNoValue pmid t r found (NotArchive file offset) = IsValueFault found.files r.volumes pmid t (faults.NotArchive file offset)
 HasNoValue pmid t r found (Nothing stamp) = (stamp ≡ t) × IsValueAt found.files r.volumes pmid t None × OverReadable found (λ items. value_at pmid t items ≡ None)
 HasNoValue pmid t r found _ = ⊥
 
@@ -32,7 +32,7 @@ HasNothing found r t (Some pmid) = IsValueAt found.files r.volumes pmid t None �
 
 -- where no values are found: no metric has the name; or, of the one that has it, a record is no item's, or there are none
 abbrev pub IsStopped : ValueWords → Loaded → Found → Refusal → Type 0
-IsStopped asked r found (NotArchive file offset) = (pmid : ℕ) × (metric_of_name r.records asked.name ≡ Some pmid) × IsWholeFault found.files r.volumes (faults.NotArchive file offset)
+IsStopped asked r found (NotArchive file offset) = (pmid : ℕ) × (metric_of_name r.records asked.name ≡ Some pmid) × IsValueFault found.files r.volumes pmid asked.stamp (faults.NotArchive file offset)
 IsStopped asked r found (Nothing stamp) = (stamp ≡ asked.stamp) × HasNothing found r asked.stamp (metric_of_name r.records asked.name)
 IsStopped asked r found _ = ⊥
 

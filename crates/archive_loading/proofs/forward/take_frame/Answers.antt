@@ -1,4 +1,4 @@
-use Rattle.std.proofs.Common.{◌≡◌, ◌+◌, ◌-◌, ◌≤◌, subst, arith}
+use Rattle.std.proofs.Common.{subst, arith}
 use Rattle.std.specs.Prelude.{IfOk}
 use Rattle.pcp_model.specs.Disk.{contents_of}
 use Rattle.archive_loading.specs.Standing.{IsTaken}
@@ -11,7 +11,7 @@ returns-then-at-end-clause-looks g c = looks_none g.D.Disk g.met.D.Disk.only_now
 
 pub returns-clause-taken : goal.returns-clause-taken
 returns-clause-taken g c = λ tells.
-    subst (λ h. IfOk c.take_rest.result (IsTaken (contents_of h c.args.file) c.args.at)) (c.take_bytes.ensures.looks.held tells) (c.take_rest.ensures.taken tells)
+    subst (λ h. IfOk c.take_rest.result (IsTaken (contents_of h c.args.file) c.args.at c.take_rest.new.frame.items)) (c.take_bytes.ensures.looks.held tells) (c.take_rest.ensures.taken tells)
 
 pub returns-clause-looks : goal.returns-clause-looks
 returns-clause-looks g c = looks_on g.D.Disk c.args.disk.now c.take_bytes.new.disk c.take_rest.new.disk c.take_bytes.ensures.looks c.take_rest.ensures.looks

@@ -8,7 +8,7 @@ use Rattle.archive_loading.proofs.Looking.{looks_none, looks_on}
 use Rattle.archive_loading.specs.Loaded.{IsReachable}
 use Rattle.pcp_base.specs.declared.file.FileId.TheVariants.{Volume}
 use Rattle.archive_loading.proofs.LabelBytes.{none_taken, one_label, labels_below, labels_so_far}
-use Rattle.archive_loading.proofs.Volumes.{SoFar, none_yet, skips, adds, headed_here, one_stops, all_headed}
+use Rattle.archive_loading.proofs.Volumes.{SoFar, RiseTo, rise_on, rise_with, none_yet, skips, adds, headed_here, one_stops, all_headed}
 use Rattle.archive_loading.proofs.loading.load_heads.Goals as goal
 
 pub loop-number-init : goal.loop-number-init
@@ -17,6 +17,7 @@ loop-number-init g c = record {
   quiet = refl;
   so_far = λ tells. subst (λ vs. SoFar (contents_of (g.D.Disk.held c.args.disk.now)) c.args.label.now c.args.count 0 vs) (sym c.empty-volumes.ensures) (none_yet (contents_of (g.D.Disk.held c.args.disk.now)) c.args.label.now c.args.count);
   reach = subst IsReachable (sym c.empty-volumes.ensures) tt;
+  rises = subst (RiseTo 0) (sym c.empty-volumes.ensures) (tt, tt);
   took = λ tells. none_taken (g.D.Disk.taken c.args.disk.now) (contents_of (g.D.Disk.held c.args.disk.now));
 }
 
@@ -54,6 +55,10 @@ loop-number-preserved g c =
         | in-Empty w ↦ subst IsReachable (sym w.volumes-is) c.loop-number.invariant.reach
         | in-Headed+in_ok-push-in-Headed w ↦ subst IsReachable (sym (w.volumes-is ∙ w.in_ok-push-in-Headed.ensures.ok))
             (each-append (λ (v : ℕ × ℕ). v.0 < 4294967295) vs ((n, w.in-Headed.end) ∷ []) c.loop-number.invariant.reach (let low : n < 4294967295 = omega (arith, c.loop-number-test.true, c.ranges.count.fits) in low, tt))
+      ];
+      rises = elim c.match-branch-2.branch [
+        | in-Empty w ↦ subst (RiseTo (n + 1)) (sym w.volumes-is) (rise_on n vs c.loop-number.invariant.rises)
+        | in-Headed+in_ok-push-in-Headed w ↦ subst (RiseTo (n + 1)) (sym (w.volumes-is ∙ w.in_ok-push-in-Headed.ensures.ok)) (rise_with n w.in-Headed.end vs c.loop-number.invariant.rises)
       ];
       took = λ tells.
           let one : g.D.Disk.taken c.load_volume.new.disk ≤ g.D.Disk.taken c.loop-number.disk + length (take 132 (files (Volume n))) =

@@ -1,4 +1,4 @@
-use Rattle.std.proofs.Common.{◌≡◌, ℕ, ◌+◌, ◌-◌, ◌≤◌, List, length, refl, ap, subst, arith}
+use Rattle.std.proofs.Common.{◌≡◌, ℕ, ◌+◌, ◌-◌, ◌≤◌, List, length, refl, sym, ap, ◌∙◌, subst, arith}
 use Rattle.pcp_base.specs.declared.file.FileId.TheVariants.{Meta}
 use Rattle.pcp_model.specs.Disk.{contents_of}
 use Rattle.archive_loading.specs.Standing.{IsTaken, WasTaken}
@@ -13,7 +13,7 @@ returns-in-Torn-clause-added g c = λ tells.
     let k : ℕ = c.args.at - 132 in
     let behind : c.args.at ≡ 132 + k = omega (arith, c.requires.behind) in
     let long : 132 ≤ length bytes = omega (arith, (c.requires.long tells).0, (c.requires.long tells).1) in
-    (refl, refl, torn_behind bytes c.args.at k behind long (subst (IsTaken bytes c.args.at) c.in-Torn.is (c.in_ok-take_frame.ensures.taken tells)))
+    (refl, refl, torn_behind bytes c.args.at k behind long (subst (IsTaken bytes c.args.at c.take_frame.new.frame.items) c.in-Torn.is (c.in_ok-take_frame.ensures.taken tells)))
 
 pub returns-in-Wrong-clause-added : goal.returns-in-Wrong-clause-added
 returns-in-Wrong-clause-added g c = λ tells.
@@ -21,7 +21,7 @@ returns-in-Wrong-clause-added g c = λ tells.
     let k : ℕ = c.args.at - 132 in
     let behind : c.args.at ≡ 132 + k = omega (arith, c.requires.behind) in
     let long : 132 ≤ length bytes = omega (arith, (c.requires.long tells).0, (c.requires.long tells).1) in
-    let none = subst (IsTaken bytes c.args.at) c.in-Wrong.is (c.in_ok-take_frame.ensures.taken tells) in
+    let none = subst (IsTaken bytes c.args.at c.take_frame.new.frame.items) c.in-Wrong.is (c.in_ok-take_frame.ensures.taken tells) in
     (no_frame_fits bytes c.args.at k behind long c.args.meta.now none.0, not_torn_behind bytes c.args.at k behind long none.1)
 
 pub returns-then-added-clause-added : goal.returns-then-added-clause-added
@@ -30,10 +30,10 @@ returns-then-added-clause-added g c = λ tells.
     let k : ℕ = c.args.at - 132 in
     let behind : c.args.at ≡ 132 + k = omega (arith, c.requires.behind) in
     let long : 132 ≤ length bytes = omega (arith, (c.requires.long tells).0, (c.requires.long tells).1) in
-    let taken : WasTaken bytes c.args.at c.in-Frame.frame = subst (IsTaken bytes c.args.at) c.in-Frame.is (c.in_ok-take_frame.ensures.taken tells) in
-    let told = when_true (FrameIsAdded c.as_slice.result.now c.args.meta.now c.add_frame.new.meta c.args.last.now c.add_frame.new.last) (FrameIsBad c.as_slice.result.now c.args.meta.now c.add_frame.new.meta) c.in_ok-added.added c.in_ok-added.ensures c.if-added.true in
-    frame_stands bytes c.args.at k behind long c.in-Frame.frame taken c.args.meta.now c.add_frame.new.meta c.args.last.now c.add_frame.new.last (c.args.at + c.len.result) (ap (λ n. c.args.at + n) c.len.ensures)
-    (subst (λ f. FrameIsAdded f c.args.meta.now c.add_frame.new.meta c.args.last.now c.add_frame.new.last) c.as_slice.ensures told)
+    let taken : WasTaken bytes c.args.at c.take_frame.new.frame.items = subst (IsTaken bytes c.args.at c.take_frame.new.frame.items) c.in-Frame.is (c.in_ok-take_frame.ensures.taken tells) in
+    let told = when_true (FrameIsAdded c.deref.result.now c.args.meta.now c.add_frame.new.meta c.args.last.now c.add_frame.new.last) (FrameIsBad c.deref.result.now c.args.meta.now c.add_frame.new.meta) c.in_ok-added.added c.in_ok-added.ensures c.if-added.true in
+    frame_stands bytes c.args.at k behind long c.take_frame.new.frame.items taken c.args.meta.now c.add_frame.new.meta c.args.last.now c.add_frame.new.last (c.args.at + c.len.result) (ap (λ n. c.args.at + n) (c.len.ensures ∙ sym c.deref.ensures.len ∙ ap length c.deref.ensures.value))
+    (subst (λ f. FrameIsAdded f c.args.meta.now c.add_frame.new.meta c.args.last.now c.add_frame.new.last) c.deref.ensures.value told)
 
 pub returns-clause-added : goal.returns-clause-added
 returns-clause-added g c = λ tells.
@@ -41,6 +41,6 @@ returns-clause-added g c = λ tells.
     let k : ℕ = c.args.at - 132 in
     let behind : c.args.at ≡ 132 + k = omega (arith, c.requires.behind) in
     let long : 132 ≤ length bytes = omega (arith, (c.requires.long tells).0, (c.requires.long tells).1) in
-    let taken : WasTaken bytes c.args.at c.in-Frame.frame = subst (IsTaken bytes c.args.at) c.in-Frame.is (c.in_ok-take_frame.ensures.taken tells) in
-    let told = when_false (FrameIsAdded c.as_slice.result.now c.args.meta.now c.add_frame.new.meta c.args.last.now c.add_frame.new.last) (FrameIsBad c.as_slice.result.now c.args.meta.now c.add_frame.new.meta) c.in_ok-added.added c.in_ok-added.ensures c.if-added.false in
-    (bad_fits bytes c.args.at k behind long c.in-Frame.frame taken c.args.meta.now c.add_frame.new.meta (subst (λ f. FrameIsBad f c.args.meta.now c.add_frame.new.meta) c.as_slice.ensures told), frame_not_torn bytes c.args.at k behind long c.in-Frame.frame taken)
+    let taken : WasTaken bytes c.args.at c.take_frame.new.frame.items = subst (IsTaken bytes c.args.at c.take_frame.new.frame.items) c.in-Frame.is (c.in_ok-take_frame.ensures.taken tells) in
+    let told = when_false (FrameIsAdded c.deref.result.now c.args.meta.now c.add_frame.new.meta c.args.last.now c.add_frame.new.last) (FrameIsBad c.deref.result.now c.args.meta.now c.add_frame.new.meta) c.in_ok-added.added c.in_ok-added.ensures c.if-added.false in
+    (bad_fits bytes c.args.at k behind long c.take_frame.new.frame.items taken c.args.meta.now c.add_frame.new.meta (subst (λ f. FrameIsBad f c.args.meta.now c.add_frame.new.meta) c.deref.ensures.value told), frame_not_torn bytes c.args.at k behind long c.take_frame.new.frame.items taken)

@@ -46,6 +46,17 @@ returns-in_err-next_ahead-clause-count g c = λ tells.
 pub returns-in_err-next_ahead-clause-looks : goal.returns-in_err-next_ahead-clause-looks
 returns-in_err-next_ahead-clause-looks g c = looks_on g.D.Disk c.args.disk.now c.loop.disk c.next_ahead.new.disk c.loop.invariant.looks c.next_ahead.ensures.looks
 
+pub returns-in_err-last-in-Item-clause-count : goal.returns-in_err-last-in-Item-clause-count
+returns-in_err-last-in-Item-clause-count g c = λ tells.
+    let files = contents_of (g.D.Disk.held c.args.disk.now) in
+    let volumes : List (ℕ × ℕ) = c.args.volumes.now in
+    let so_far = c.loop.invariant.so_far tells in
+    let past = subst (λ h. TookNext (contents_of h) (drop c.loop.index volumes) c.loop.at (g.D.Disk.taken c.loop.disk) (g.D.Disk.taken c.next_ahead.new.disk)) (c.loop.invariant.looks.held tells) (c.next_ahead.ensures.count tells) in
+    takes_next files volumes c.args.index c.args.at (g.D.Disk.taken c.args.disk.now) (LastSoFar c.args.t c.loop.found) c.loop.index c.loop.at (g.D.Disk.taken c.loop.disk) so_far c.args.t (g.D.Disk.taken c.next_ahead.new.disk) so_far.kept.0 past
+
+pub returns-in_err-last-in-Item-clause-looks : goal.returns-in_err-last-in-Item-clause-looks
+returns-in_err-last-in-Item-clause-looks g c = looks_on g.D.Disk c.args.disk.now c.loop.disk c.next_ahead.new.disk c.loop.invariant.looks c.next_ahead.ensures.looks
+
 pub returns-in_err-next_ahead-clause-fault : goal.returns-in_err-next_ahead-clause-fault
 returns-in_err-next_ahead-clause-fault g c = λ tells.
     let files = contents_of (g.D.Disk.held c.args.disk.now) in
@@ -70,8 +81,8 @@ loop-preserved g c = record {
       let volumes : List (ℕ × ℕ) = c.args.volumes.now in
       let step = subst (IsAhead files volumes c.loop.index c.loop.at c.args.t) c.in-Item.is (subst (λ h. IsAhead (contents_of h) volumes c.loop.index c.loop.at c.args.t c.in_ok-next_ahead.field-0) (c.loop.invariant.looks.held tells) (c.in_ok-next_ahead.ensures.found tells)) in
       let past = subst (λ h. TookNext (contents_of h) (drop c.loop.index volumes) c.loop.at (g.D.Disk.taken c.loop.disk) (g.D.Disk.taken c.next_ahead.new.disk)) (c.loop.invariant.looks.held tells) (c.next_ahead.ensures.count tells) in
-      goes_on files volumes c.args.index c.args.at (g.D.Disk.taken c.args.disk.now) (LastSoFar c.args.t c.loop.found) (LastSoFar c.args.t (Some c.in-Item.item)) c.loop.index c.loop.at (g.D.Disk.taken c.loop.disk) (g.D.Disk.taken c.next_ahead.new.disk) c.in-Item.item c.in-Item.behind c.in-Item.next
-      (c.loop.invariant.so_far tells) step.0 past (last_more c.args.t c.loop.found c.in-Item.item step.1);
+      goes_on files volumes c.args.index c.args.at (g.D.Disk.taken c.args.disk.now) (LastSoFar c.args.t c.loop.found) (LastSoFar c.args.t (Some c.in_ok-last-in-Item.last)) c.loop.index c.loop.at (g.D.Disk.taken c.loop.disk) (g.D.Disk.taken c.next_ahead.new.disk) c.in-Item.item c.in-Item.behind c.in-Item.next
+      (c.loop.invariant.so_far tells) step.0 past (last_more c.args.t c.loop.found c.in-Item.item c.in_ok-last-in-Item.last c.in_ok-last-in-Item.ensures step.1);
 }
 
 pub next_ahead-requires-clause-lengths : goal.next_ahead-requires-clause-lengths

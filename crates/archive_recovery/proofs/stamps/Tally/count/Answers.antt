@@ -6,4 +6,4 @@ use Rattle.archive_recovery.proofs.stamps.Tally.count.Goals as goal
 
 pub returns : goal.returns
 returns c = one_counted c.args.self.now (record { items = c.args.self.now.items + 1; last = Some c.later.result }) c.args.item.now refl
-    (λ moments is. subst (λ (s : Moment). IsLatest (moments ++ s ∷ []) (Some c.later.result)) c.stamp_of.ensures (c.later.ensures moments is))
+    (λ moments is. subst (λ (s : Moment). IsLatest (moments ++ s ∷ []) (Some c.later.result)) c.stamp.ensures (c.later.ensures moments is))
