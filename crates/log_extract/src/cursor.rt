@@ -16,34 +16,35 @@ use pcp_base::{Item, List, PmResult, Stamp, ValueSet};
 use pcp_outside::Disk;
 use std::alloc::Global;
 
-/// A source that is read: its next result, and the place of the record behind it.
+/// A source that is read: its next result, the place of the record behind it, and the bytes of the record that was looked at last.
 #[derive(Drop)]
 pub(crate) struct Cursor {
     pub reader: ArchiveReader,
     pub place: Place,
     pub next: Option<PmResult>,
+    pub frame: Vec<u8>,
 }
 
 /// The next result from a place on, marks being passed over, and the place behind it.
 fn next_sample<D: Disk>(
     alloc: Global,
     disk: &mut D,
-    reader: &mut ArchiveReader,
+    reader: &ArchiveReader,
     place: Place,
+    frame: &mut Vec<u8>,
 ) -> Result<Option<(PmResult, Place)>, ReaderFault>
-    requires over { D.tells → IsOver (contents_of (D.held disk.old)) reader.old }
-    requires ready { D.tells → (items : Sequence AnItem) × StandFrom (contents_of (D.held disk.old)) reader.old.volumes place items }
-    ensures same { reader.new ≡ reader.old }
-    ensures found { D.tells → (items : Sequence AnItem) → StandFrom (contents_of (D.held disk.old)) reader.old.volumes place items → IfOk result (IsNextSample (contents_of (D.held disk.old)) reader.old.volumes items) }
+    requires over { D.tells → IsOver (contents_of (D.held disk.old)) reader.now }
+    requires ready { D.tells → (items : Sequence AnItem) × StandFrom (contents_of (D.held disk.old)) reader.now.volumes place items }
+    ensures found { D.tells → (items : Sequence AnItem) → StandFrom (contents_of (D.held disk.old)) reader.now.volumes place items → IfOk result (IsNextSample (contents_of (D.held disk.old)) reader.now.volumes items) }
     ensures broken { IfErr result (IsBroken D.Disk disk.old disk.new) }
     ensures looks { Looks D.Disk disk.old disk.new }
     ensures quiet { OnOk result (D.faults disk.new ≡ D.faults disk.old) }
 {
     let mut at = place;
     for _ in 0..u64::MAX {
-        match reader.item_at(alloc, disk, at)? {
+        match reader.view_at(disk, at, frame)? {
             None => return Ok(None),
-            Some((item, behind)) => match item {
+            Some((item, behind)) => match item.to_item(alloc)? {
                 Item::Sample(result) => return Ok(Some((result, behind))),
                 Item::Mark(_) => at = behind,
             },
@@ -67,18 +68,20 @@ impl Cursor {
         ensures looks { Looks D.Disk disk.old disk.new }
         ensures quiet { OnOk result (D.faults disk.new ≡ D.faults disk.old) }
     {
-        let mut reader = reader;
+        let mut frame = Vec::new(alloc);
         let start = reader.start();
-        match next_sample(alloc, disk, &mut reader, start)? {
+        match next_sample(alloc, disk, &reader, start, &mut frame)? {
             Some((next, place)) => Ok(Cursor {
                 reader,
                 place,
                 next: Some(next),
+                frame,
             }),
             None => Ok(Cursor {
                 reader,
                 place: start,
                 next: None,
+                frame,
             }),
         }
     }
@@ -128,7 +131,7 @@ impl Cursor {
         let Some(result) = self.next.take() else {
             return Err(ReaderFault::NoMemory);
         };
-        match next_sample(alloc, disk, &mut self.reader, self.place)? {
+        match next_sample(alloc, disk, &self.reader, self.place, &mut self.frame)? {
             Some((next, place)) => {
                 self.next = Some(next);
                 self.place = place;

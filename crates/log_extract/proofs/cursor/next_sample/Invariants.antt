@@ -9,7 +9,6 @@ use Rattle.log_extract.proofs.cursor.next_sample.Given as goal
 
 abbrev pub invariant-loop : goal.invariant-loop
 invariant-loop g l = record {
-  same : l.reader ≡ l.fn.reader;
   far : g.D.Disk.tells → (items : List Item) → StandFrom (contents_of (g.D.Disk.held l.fn.disk)) l.fn.reader.volumes l.fn.place items → Passed (contents_of (g.D.Disk.held l.fn.disk)) l.fn.reader.volumes l.at items;
   looks : Looks g.D.Disk l.fn.disk l.disk;
   quiet : g.D.Disk.faults l.disk ≡ g.D.Disk.faults l.fn.disk;

@@ -29,9 +29,9 @@ returns-in-Some-2-clause-leaves g c = λ tells r results leaves.
     let files : Files = contents_of (g.D.Disk.held c.args.disk.now) in
     let vs : List (ℕ × ℕ) = c.args.self.now.reader.volumes in
     let is : c.args.self.now.next ≡ Some c.in-Some.result = cc (c.take.ensures.value, c.in-Some.is) in
-    let now : Cursor = record { reader = c.next_sample.new.reader; place = c.in-Some-2.place; next = Some c.in-Some-2.next } in
+    let now : Cursor = record { reader = c.args.self.now.reader; place = c.in-Some-2.place; next = Some c.in-Some-2.next; frame = c.next_sample.new.frame } in
     goes_to files c.in-Some.result r results now
-    (goes_on files c.args.self.now now c.in-Some.result (r ∷ results) (Some (c.in-Some-2.next, c.in-Some-2.place)) c.next_sample.ensures.same (refl, refl) is leaves
+    (goes_on files c.args.self.now now c.in-Some.result (r ∷ results) (Some (c.in-Some-2.next, c.in-Some-2.place)) refl (refl, refl) is leaves
     (λ items stand. subst (IsNextSample files vs items) c.in-Some-2.is (c.in_ok-next.ensures.found tells items stand)))
 
 pub returns-in-Some-2-clause-ready : goal.returns-in-Some-2-clause-ready
@@ -40,9 +40,9 @@ returns-in-Some-2-clause-ready g c = λ tells.
     let vs : List (ℕ × ℕ) = c.args.self.now.reader.volumes in
     let (results, leaves) = c.requires.ready tells in
     let is : c.args.self.now.next ≡ Some c.in-Some.result = cc (c.take.ensures.value, c.in-Some.is) in
-    let now : Cursor = record { reader = c.next_sample.new.reader; place = c.in-Some-2.place; next = Some c.in-Some-2.next } in
+    let now : Cursor = record { reader = c.args.self.now.reader; place = c.in-Some-2.place; next = Some c.in-Some-2.next; frame = c.next_sample.new.frame } in
     let on : GoesOn files c.in-Some.result results now =
-    goes_on files c.args.self.now now c.in-Some.result results (Some (c.in-Some-2.next, c.in-Some-2.place)) c.next_sample.ensures.same (refl, refl) is leaves
+    goes_on files c.args.self.now now c.in-Some.result results (Some (c.in-Some-2.next, c.in-Some-2.place)) refl (refl, refl) is leaves
     (λ items stand. subst (IsNextSample files vs items) c.in-Some-2.is (c.in_ok-next.ensures.found tells items stand)) in
     (on.rest, subst (λ (h : Holdings). Leaves (contents_of h) now on.rest) (sym (c.next_sample.ensures.looks.held tells)) on.leaves)
 
@@ -52,9 +52,9 @@ returns-in-None-clause-leaves g c = λ tells r results leaves.
     let vs : List (ℕ × ℕ) = c.args.self.now.reader.volumes in
     let is : c.args.self.now.next ≡ Some c.in-Some.result = cc (c.take.ensures.value, c.in-Some.is) in
     let none : c.take.new.self ≡ None = cc (c.take.ensures.after) in
-    let now : Cursor = record { reader = c.next_sample.new.reader; place = c.args.self.now.place; next = c.take.new.self } in
+    let now : Cursor = record { reader = c.args.self.now.reader; place = c.args.self.now.place; next = c.take.new.self; frame = c.next_sample.new.frame } in
     goes_to files c.in-Some.result r results now
-    (goes_on files c.args.self.now now c.in-Some.result (r ∷ results) None c.next_sample.ensures.same none is leaves
+    (goes_on files c.args.self.now now c.in-Some.result (r ∷ results) None refl none is leaves
     (λ items stand. subst (IsNextSample files vs items) c.in-None.is (c.in_ok-next.ensures.found tells items stand)))
 
 pub returns-in-None-clause-ready : goal.returns-in-None-clause-ready
@@ -64,8 +64,8 @@ returns-in-None-clause-ready g c = λ tells.
     let (results, leaves) = c.requires.ready tells in
     let is : c.args.self.now.next ≡ Some c.in-Some.result = cc (c.take.ensures.value, c.in-Some.is) in
     let none : c.take.new.self ≡ None = cc (c.take.ensures.after) in
-    let now : Cursor = record { reader = c.next_sample.new.reader; place = c.args.self.now.place; next = c.take.new.self } in
+    let now : Cursor = record { reader = c.args.self.now.reader; place = c.args.self.now.place; next = c.take.new.self; frame = c.next_sample.new.frame } in
     let on : GoesOn files c.in-Some.result results now =
-    goes_on files c.args.self.now now c.in-Some.result results None c.next_sample.ensures.same none is leaves
+    goes_on files c.args.self.now now c.in-Some.result results None refl none is leaves
     (λ items stand. subst (IsNextSample files vs items) c.in-None.is (c.in_ok-next.ensures.found tells items stand)) in
     (on.rest, subst (λ (h : Holdings). Leaves (contents_of h) now on.rest) (sym (c.next_sample.ensures.looks.held tells)) on.leaves)

@@ -15,11 +15,11 @@ returns-in-Some-clause-leaves g c = λ tells items all.
     let files : Files = contents_of (g.D.Disk.held c.args.disk.now) in
     let vs : List (ℕ × ℕ) = c.args.reader.volumes in
     let found = c.in_ok-next.ensures.found tells items (start_stands files vs c.start-start.result items c.start-start.ensures.volume c.start-start.ensures.offset all) in
-    stands_now files c.args.reader _ items (Some (c.in-Some.next, c.in-Some.place)) (c.requires.over tells) c.next_sample.ensures.same (refl, refl) (subst (IsNextSample files vs items) c.in-Some.is found)
+    stands_now files c.args.reader _ items (Some (c.in-Some.next, c.in-Some.place)) (c.requires.over tells) refl (refl, refl) (subst (IsNextSample files vs items) c.in-Some.is found)
 
 pub returns-in-None-clause-leaves : goal.returns-in-None-clause-leaves
 returns-in-None-clause-leaves g c = λ tells items all.
     let files : Files = contents_of (g.D.Disk.held c.args.disk.now) in
     let vs : List (ℕ × ℕ) = c.args.reader.volumes in
     let found = c.in_ok-next.ensures.found tells items (start_stands files vs c.start-start.result items c.start-start.ensures.volume c.start-start.ensures.offset all) in
-    stands_now files c.args.reader _ items None (c.requires.over tells) c.next_sample.ensures.same refl (subst (IsNextSample files vs items) c.in-None.is found)
+    stands_now files c.args.reader _ items None (c.requires.over tells) refl refl (subst (IsNextSample files vs items) c.in-None.is found)
