@@ -1,5 +1,5 @@
 -- An export is an archive with the same items and records, sound where what recovery leaves is, and one thing.
-use Rattle.std.proofs.Common.{zero, suc, ◌≡◌, ◌⊎◌, inl, inr, ⊎_elim, ℕ, ◌<◌, ◌≤◌, pos, negsuc, Bool, true, false, List, [], ◌∷◌, ◌++◌, length, take, drop, map, refl, sym, ap, ◌∙◌, subst, arith, eqb-true, Some}
+use Rattle.std.proofs.Common.{zero, suc, ◌≡◌, inl, inr, ⊎_elim, ℕ, ◌<◌, ◌≤◌, pos, negsuc, Bool, true, false, List, [], ◌∷◌, ◌++◌, length, take, drop, map, refl, sym, ap, ◌∙◌, subst, arith, eqb-true, Some}
 use Rattle.std.specs.Prelude.{Contains, ◌&&◌, ◌==◌, if◌then◌else◌, nat_eq}
 use Rattle.std.specs.Int.{w32}
 use Rattle.std.specs.List.{AllByRecursion}
@@ -10,13 +10,13 @@ use Rattle.pcp_base.specs.declared.file.FileId.{FileId}
 use Rattle.pcp_base.specs.declared.file.FileId.TheVariants.{Meta, Index, Volume}
 use Rattle.pcp_base.specs.declared.result.Item.{Item}
 use Rattle.pcp_model.specs.declared.records.Entry.{Entry}
-use Rattle.pcp_model.specs.Archive.{ArchiveContents, ArchiveReading, IsMeta, IsIndex, HasEntries, IsLastVolume, LabelledFile, AreVolumes, IsArchive, Reads, items_of, records_in, scan}
+use Rattle.pcp_model.specs.Archive.{ArchiveContents, ArchiveReading, IsMeta, IsIndex, HasEntries, IsLastVolume, LabelledFile, AreVolumes, IsArchive, Reads, records_in, scan}
 use Rattle.pcp_model.specs.Disk.{Files}
 use Rattle.pcp_model.specs.LabelFields.{LabelFields}
 use Rattle.pcp_model.specs.Labels.{IsLabel, label}
 use Rattle.pcp_model.specs.Payload.{IsItem}
 use Rattle.pcp_model.specs.Records.{FitsEntry, entries}
-use Rattle.pcp_model.specs.Recovered.{AreMended, IsMended, IsMendedIndex, IsRecovered, Recovers, labelled_volumes, or_first_volume, recovered_contents, recovered_reading}
+use Rattle.pcp_model.specs.Recovered.{AreMended, IsMended, IsMendedIndex, IsRecovered, labelled_volumes, or_first_volume, recovered_contents}
 use Rattle.pcp_model.specs.Sound.{IsBoundary, IsSound, IsSoundEntry, NeverFalls, NoItemAfter, PointsWell}
 use Rattle.pcp_model.proofs.Cuts.{SpelledLabel, is_label, length_of_label}
 use Rattle.pcp_model.proofs.Lengths.{length-label}
@@ -52,7 +52,7 @@ same_entry_is a b h =
     entry_of : ℕ → ℕ → ℕ → ℕ → ℕ → Entry
     entry_of sec usec volume meta offset = record { stamp = record { sec = sec; usec = usec }; volume = volume; meta = meta; offset = offset }
 
-put_first : (P : Entry → Type 0) (first : Entry) (es : List Entry) → P first → AllByRecursion P es → AllByRecursion P (with_first first es)
+pub put_first : (P : Entry → Type 0) (first : Entry) (es : List Entry) → P first → AllByRecursion P es → AllByRecursion P (with_first first es)
 put_first P first [] one all = (one, tt)
 put_first P first (e ∷ es) one all = by (same_entry first e)
   where
@@ -61,7 +61,7 @@ put_first P first (e ∷ es) one all = by (same_entry first e)
     by false = (one, all)
 
 -- what holds of the entries of these volumes
-all_kept : (P Q : Entry → Type 0) (ns : List ℕ) (es : List Entry) → ((e : Entry) → is_one_of ns e.volume ≡ true → P e → Q e) → AllByRecursion P es → AllByRecursion Q (kept_entries ns es)
+pub all_kept : (P Q : Entry → Type 0) (ns : List ℕ) (es : List Entry) → ((e : Entry) → is_one_of ns e.volume ≡ true → P e → Q e) → AllByRecursion P es → AllByRecursion Q (kept_entries ns es)
 all_kept P Q ns [] f all = tt
 all_kept P Q ns (e ∷ es) f all = by (is_one_of ns e.volume) refl (all_kept P Q ns es f all.1)
   where
@@ -102,7 +102,7 @@ module _ (left out : Files) (l : LabelFields) (same : (n : ℕ) → out (Volume 
   same_volumes (v ∷ w ∷ vs) are = (subst (λ t. LabelledFile IsItem t l (pos v.0) v.1 []) (sym (same v.0)) are.0, are.1, same_volumes (w ∷ vs) are.2)
 
 module _ (files : Files) (c : ArchiveContents) (is : IsArchive files c) where
-  spelled : SpelledLabel c.label
+  pub spelled : SpelledLabel c.label
   spelled = spelled_of is.meta.holds.head c.label (negsuc 0) is.meta.holds.label
 
   module _ (left : Files) (r : IsRecovered files c left) where
@@ -118,14 +118,14 @@ module _ (files : Files) (c : ArchiveContents) (is : IsArchive files c) where
     abbrev volumes_left : List (ℕ × List Item)
     volumes_left = labelled_volumes files c.volumes
 
-    start_fits : FitsEntry (start_entry c.label (first_number volumes_left))
+    pub start_fits : FitsEntry (start_entry c.label (first_number volumes_left))
     start_fits = record { moment = is.meta.holds.label.start; volume = first_low volumes_left r.volumes; meta = omega arith; offset = omega arith }
 
-    old_fit : IsIndex (files Index) c → AllByRecursion FitsEntry c.entries
+    pub old_fit : IsIndex (files Index) c → AllByRecursion FitsEntry c.entries
     old_fit (inl none) = subst (AllByRecursion FitsEntry) (sym none.0) tt
     old_fit (inr has) = has.fit
 
-    index_label_of : (t : List ℕ) → IsMendedIndex (files Index) c t → IsLabel (take 132 t) c.label (negsuc 1)
+    pub index_label_of : (t : List ℕ) → IsMendedIndex (files Index) c t → IsLabel (take 132 t) c.label (negsuc 1)
     index_label_of t (inl given) =
         let long : length (label c.label (negsuc 1)) ≡ 132 = length-label c.label (negsuc 1) spelled.fits in
         subst (λ b. IsLabel b c.label (negsuc 1)) (sym (ap (take 132) given.1 ∙ take_all 132 (label c.label (negsuc 1)) (omega (arith, long))))
@@ -138,18 +138,21 @@ module _ (files : Files) (c : ArchiveContents) (is : IsArchive files c) where
     abbrev rec : IsArchive e.left (recovered_contents files c)
     rec = recovered_is files e.left c is e.recovered
 
+    abbrev pub has_entries : HasEntries (out Index) (exported_contents files c)
+    has_entries = record {
+      head = take 132 (e.left Index);
+      label = index_label_of e.left e.recovered (e.left Index) e.recovered.index;
+      fit = put_first FitsEntry (start_entry c.label (first_number (labelled_volumes files c.volumes))) (kept_entries (numbers_left files c) c.entries) (start_fits e.left e.recovered) (all_kept FitsEntry FitsEntry (numbers_left files c) c.entries (λ x listed fits. fits) (old_fit e.left e.recovered is.index));
+      rest = [];
+      short = omega arith;
+      is = e.index ∙ ap (λ t. take 132 (e.left Index) ++ t) (sym (append-nil (entries (exported_entries files c))));
+    }
+
     pub export_is : IsArchive out (exported_contents files c)
     export_is = record {
       meta = let m : IsMeta (out Meta) (recovered_contents files c) = subst (λ t. IsMeta t (recovered_contents files c)) (sym e.meta) rec.meta in
           record { torn = m.torn; is_torn = m.is_torn; holds = m.holds; consistent = m.consistent };
-      index = inr (record {
-        head = take 132 (e.left Index);
-        label = index_label_of e.left e.recovered (e.left Index) e.recovered.index;
-        fit = put_first FitsEntry (start_entry c.label (first_number (labelled_volumes files c.volumes))) (kept_entries (numbers_left files c) c.entries) (start_fits e.left e.recovered) (all_kept FitsEntry FitsEntry (numbers_left files c) c.entries (λ x listed fits. fits) (old_fit e.left e.recovered is.index));
-        rest = [];
-        short = omega arith;
-        is = e.index ∙ ap (λ t. take 132 (e.left Index) ++ t) (sym (append-nil (entries (exported_entries files c))));
-      });
+      index = inr has_entries;
       volumes = same_volumes e.left out c.label e.volumes (or_first_volume (labelled_volumes files c.volumes)) rec.volumes;
       others = λ n none. e.volumes n ∙ rec.others n none;
       labelled = inr (first_number (labelled_volumes files c.volumes), subst (λ t. 132 ≤ length t) (sym (e.volumes (first_number (labelled_volumes files c.volumes)))) (first_long e.left e.recovered (labelled_volumes files c.volumes) e.recovered.volumes));

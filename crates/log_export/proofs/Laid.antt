@@ -10,9 +10,9 @@ use Rattle.pcp_base.specs.declared.file.FileId.TheVariants.{Meta, Index, Volume}
 use Rattle.pcp_model.specs.Disk.{Files, Held, Holdings, CrashImage, nothing_held}
 use Rattle.pcp_model.specs.Written.{same_file}
 use Rattle.pcp_outside.specs.declared.disk.Disk.{Ghosts as DiskGhosts}
-use Rattle.pcp_outside.specs.Devices.{Becomes, LeavesOnly, Survives, held_after_append, holdings_after_append, made_sure, with_file}
+use Rattle.pcp_outside.specs.Devices.{Becomes, Survives, held_after_append, holdings_after_append, made_sure}
 use Rattle.pcp_outside.proofs.Crash.{joined, started, weaker}
-use Rattle.pcp_outside.proofs.Images.{same_file-refl, same_file_is, same_or_other}
+use Rattle.pcp_outside.proofs.Images.{same_file_is, same_or_other}
 use Rattle.archive_loading.proofs.Looking.{OnlyNow}
 use Rattle.log_export.specs.Copying.{AppendsOnly, piece_of}
 use Rattle.log_export.specs.Laying.{BeginsOnly, IsBegun, IsHeld, laid_before_meta, laid_to, whole}

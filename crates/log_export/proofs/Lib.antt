@@ -1,3 +1,4 @@
+pub mod Again
 pub mod Exports
 pub mod Halting
 pub mod Laid

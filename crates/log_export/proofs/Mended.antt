@@ -8,20 +8,19 @@ use Rattle.std.proofs.lemmas.List.{take_at, take-append-drop}
 use Rattle.pcp_base.specs.declared.file.FileId.TheVariants.{Meta, Volume}
 use Rattle.pcp_base.specs.declared.result.Item.{Item}
 use Rattle.pcp_model.specs.declared.records.Entry.{Entry}
-use Rattle.pcp_model.specs.Archive.{ArchiveContents, ArchiveReading, LabelledFile, IsArchive}
+use Rattle.pcp_model.specs.Archive.{ArchiveContents, LabelledFile, IsArchive}
 use Rattle.pcp_model.specs.Disk.{Files}
 use Rattle.pcp_model.specs.Frame.{frames}
 use Rattle.pcp_model.specs.LabelFields.{LabelFields}
 use Rattle.pcp_model.specs.Payload.{IsItem}
 use Rattle.pcp_model.specs.Records.{IsRecord}
 use Rattle.pcp_model.specs.Recovered.{IsMended, labelled_volumes, or_first_volume, recovered_contents, IsRecovered}
-use Rattle.pcp_model.specs.Sound.{IsBoundary, IsSound, IsSoundEntry, NeverFalls, NoItemAfter, PointsWell}
+use Rattle.pcp_model.specs.Sound.{IsBoundary, IsSoundEntry, NoItemAfter, PointsWell}
 use Rattle.pcp_model.proofs.Boundaries.{boundary_of_file, boundary_survives}
 use Rattle.pcp_model.proofs.Cuts.{length_of_label, frames-append}
 use Rattle.pcp_model.proofs.OneRecovery.{torn_file}
-use Rattle.pcp_model.proofs.Recovered.{each_left, first_has_none, same_items}
+use Rattle.pcp_model.proofs.Recovered.{each_left}
 use Rattle.pcp_model.proofs.Sound.{labelled_long}
-use Rattle.archive_recovery.specs.Laws.{AreLabelled}
 use Rattle.archive_recovery.proofs.LastVolume.{this_or_other}
 use Rattle.archive_recovery.proofs.Volumes.{each_mended, none_long}
 

@@ -1,12 +1,11 @@
 -- What comes of the steps of an export.
-use Rattle.std.proofs.Common.{◌≡◌, inl, inr, ⊎_elim, ℕ, ◌<◌, ◌≤◌, List, [], ◌∷◌, ◌++◌, length, refl, sym, ap, ◌∙◌, subst, arith, None, Err}
+use Rattle.std.proofs.Common.{◌≡◌, inl, inr, ⊎_elim, ℕ, ◌≤◌, List, [], ◌∷◌, ◌++◌, refl, ap, ◌∙◌, arith, None, Err}
 use Rattle.std.proofs.lemmas.List.{append-nil}
 use Rattle.pcp_base.specs.declared.file.FileId.{FileId}
 use Rattle.pcp_base.specs.declared.file.FileId.TheVariants.{Meta, Index, Volume}
 use Rattle.pcp_model.specs.Archive.{ArchiveContents, ArchiveReading, IsStoppedCreation}
 use Rattle.pcp_model.specs.Disk.{Files, Held, Holdings, CrashImage, contents_of, nothing_held}
 use Rattle.pcp_outside.specs.Causes.{Rose}
-use Rattle.pcp_outside.specs.declared.disk.Disk.{Ghosts as DiskGhosts}
 use Rattle.pcp_outside.specs.Devices.{LeavesOnly}
 use Rattle.pcp_outside.proofs.Crash.{joined, weaker}
 use Rattle.archive_loading.specs.Looks.{Looks}
@@ -17,11 +16,10 @@ use Rattle.log_export.specs.declared.fault.ExportFault.TheVariants.{DiskFault, S
 use Rattle.log_export.specs.declared.planning.Plan.{Plan}
 use Rattle.log_export.specs.Copying.{IsBlamed}
 use Rattle.log_export.specs.Exported.{IsExported}
-use Rattle.log_export.specs.Exporting.{ExportSide, Exports, HasExported, LeavesQuiet, MayBeBegun, MayBeLeft, MayLeave, WasFree, files_are, source_files}
+use Rattle.log_export.specs.Exporting.{ExportSide, Exports, HasExported, LeavesQuiet, MayBeLeft, MayLeave, WasFree, files_are, source_files}
 use Rattle.log_export.specs.Laying.{BeginsOnly, IsBegun, IsHeld, whole}
 use Rattle.log_export.specs.Planning.{IsPlanOf, planned}
 use Rattle.log_export.specs.Reading.{IsReadFault}
-use Rattle.log_export.specs.Standing.{IsFree}
 
 -- ---- what is held
 
@@ -76,11 +74,11 @@ module _ {A D : Type 0} (p : ExportSide A D) where
   refused (reads.Compressed file) quiet free fault rose = (quiet, free, fault)
   refused (reads.NotArchive file at) quiet free fault rose = (quiet, free, fault)
   refused reads.DiskFault quiet free fault rose = (free, rose refl)
-  refused reads.NoMemory quiet free fault rose = free
+  refused reads.NoMemory quiet free fault rose = (quiet, free)
 
   pub blamed : (s : A) (d : D) (e : ExportFault) → p.source.faults p.source_was ≤ p.source.faults s → p.disk.faults p.disk_was ≤ p.disk.faults d → (p.disk.tells → WasFree p) → IsBlamed p.source s p.source_is p.disk d p.disk_is e → Exports p (Err e)
   blamed s d (Source reads.DiskFault) source disk free is = (free, rose_from (p.source.faults p.source_was) (p.source.faults s) (p.source.faults p.source_is) source is)
-  blamed s d (Source reads.NoMemory) source disk free is = free
+  blamed s d (Source reads.NoMemory) source disk free is = absurd is
   blamed s d (Source (reads.Compressed file)) source disk free is = absurd is
   blamed s d (Source (reads.NotArchive file at)) source disk free is = absurd is
   blamed s d (Stands file) source disk free is = absurd is

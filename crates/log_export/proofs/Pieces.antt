@@ -1,5 +1,5 @@
 -- Bytes of a file, piece behind piece, and what a crash leaves of them.
-use Rattle.std.proofs.Common.{◌≡◌, inl, inr, ⊎_elim, ℕ, ◌+◌, ◌-◌, ◌<◌, ◌≤◌, Bool, true, false, List, [], ◌++◌, length, take, drop, refl, sym, ap, ◌∙◌, subst, append_assoc, arith, Result, Ok, Err}
+use Rattle.std.proofs.Common.{◌≡◌, ℕ, ◌+◌, ◌-◌, ◌≤◌, Bool, false, List, [], ◌++◌, length, take, drop, refl, sym, ap, ◌∙◌, subst, append_assoc, arith, Result}
 use Rattle.std.specs.Prelude.{if◌then◌else◌}
 use Rattle.std.proofs.Math.Seq.{take-add, take-length}
 use Rattle.std.proofs.lemmas.List.{append-nil, drop-drop, take_at, take-take as shorter}
@@ -7,9 +7,9 @@ use Rattle.pcp_base.specs.declared.file.FileId.{FileId}
 use Rattle.pcp_model.specs.Disk.{Files, Held, Holdings, CrashImage}
 use Rattle.pcp_model.specs.Written.{same_file}
 use Rattle.pcp_outside.specs.declared.disk.Disk.{Ghosts as DiskGhosts}
-use Rattle.pcp_outside.specs.Devices.{Appends, Becomes, Elapses, LeavesOnly, Syncs, held_after_append, held_after_sync, holdings_after_append, made_sure, with_file}
+use Rattle.pcp_outside.specs.Devices.{Appends, Becomes, Elapses, Syncs, held_after_append, held_after_sync, holdings_after_append, made_sure, with_file}
 use Rattle.pcp_outside.proofs.Crash.{after_append, after_sync, joined, started, weaker}
-use Rattle.pcp_outside.proofs.Images.{image_append, image_before, image_sync, same_file-refl, synced-appended}
+use Rattle.pcp_outside.proofs.Images.{image_append, image_before, same_file-refl, synced-appended}
 use Rattle.archive_loading.proofs.Looking.{OnlyNow}
 use Rattle.log_export.specs.Copying.{AppendsOnly, piece_of}
 

@@ -1,10 +1,9 @@
 -- What is planned of an archive that was walked is its export.
-use Rattle.std.proofs.Common.{zero, suc, ◌≡◌, ◌≢◌, ◌⊎◌, inl, inr, ⊎_elim, ℕ, pos, negsuc, ◌+◌, ◌-◌, ◌<◌, ◌≤◌, Bool, true, false, List, [], ◌∷◌, ◌++◌, length, take, drop, map, refl, sym, ap, ◌∙◌, subst, append_assoc, arith, Option, Some, None, eq-eqb}
-use Rattle.std.specs.Prelude.{Contains, IfSome, IsTrue, if◌then◌else◌, is_some, nat_lt, ◌==◌, unwrap_or}
-use Rattle.std.specs.List.{AllByRecursion}
-use Rattle.std.proofs.lemmas.Bool.{cases_lt, lt-ltb, le-ltb, ltb-true, ltb-false, ne_eqb}
-use Rattle.std.proofs.lemmas.List.{append-nil, length-append, length-map, length-take, length-take-le, nil_from_length, take_all, take_at, take-append-drop}
-use Rattle.pcp_base.specs.declared.file.FileId.{FileId}
+use Rattle.std.proofs.Common.{zero, suc, ◌≡◌, ◌≢◌, inl, inr, ⊎_elim, ℕ, pos, negsuc, ◌<◌, ◌≤◌, Bool, true, false, List, [], ◌∷◌, ◌++◌, length, take, drop, map, refl, sym, ap, ◌∙◌, subst, arith, Option, Some, None, eq-eqb}
+use Rattle.std.specs.Prelude.{◌&&◌, Contains, IfSome, IsTrue, if◌then◌else◌, is_some, nat_lt, ◌==◌, unwrap_or}
+use Rattle.std.specs.List.{AllByRecursion, list_all}
+use Rattle.std.proofs.lemmas.Bool.{cases_lt, lt-ltb, le-ltb, ltb-true, ne_eqb}
+use Rattle.std.proofs.lemmas.List.{length-append, length-map, length-take, length-take-le, nil_from_length, take_all, take_at, take-append-drop}
 use Rattle.pcp_base.specs.declared.file.FileId.TheVariants.{Meta, Index, Volume}
 use Rattle.pcp_base.specs.declared.result.Item.{Item}
 use Rattle.pcp_model.specs.declared.records.Entry.{Entry}
@@ -13,9 +12,9 @@ use Rattle.pcp_model.specs.Archive.{ArchiveContents, LabelledFile, HasEntries, I
 use Rattle.pcp_model.specs.Disk.{Files}
 use Rattle.pcp_model.specs.Frame.{IsTorn}
 use Rattle.pcp_model.specs.LabelFields.{LabelFields}
-use Rattle.pcp_model.specs.Labels.{IsLabel, label}
+use Rattle.pcp_model.specs.Labels.{label}
 use Rattle.pcp_model.specs.Payload.{IsItem}
-use Rattle.pcp_model.specs.Records.{IsRecord, entries, entry}
+use Rattle.pcp_model.specs.Records.{IsRecord, entries}
 use Rattle.pcp_model.specs.Recovered.{AreMended, IsMended, IsMendedIndex, IsRecovered, labelled_volumes, or_first_volume}
 use Rattle.pcp_model.proofs.Cuts.{SpelledLabel, length_of_label}
 use Rattle.pcp_model.proofs.CutArchive.{none_appended}
@@ -23,17 +22,17 @@ use Rattle.pcp_model.proofs.Lengths.{length-label}
 use Rattle.pcp_model.proofs.Lists.{each-append}
 use Rattle.pcp_model.proofs.OneItem.{one_item}
 use Rattle.pcp_model.proofs.OneRecord.{one_record}
-use Rattle.pcp_model.proofs.Recovered.{nothing_torn, spelled_of}
-use Rattle.pcp_model.proofs.Sound.{labelled_long}
+use Rattle.pcp_model.proofs.Recovered.{spelled_of}
 use Rattle.pcp_model.proofs.Unique.{one_file, SameFile}
 use Rattle.archive_loading.specs.declared.metadata.MetaEnd.{MetaEnd}
 use Rattle.archive_loading.specs.Loaded.{contents_with, IsHeaded, IsKeptOf, IsLabelled, IsLabelledArchive, numbers}
 use Rattle.archive_loading.specs.Metadata.{HasEnd}
-use Rattle.archive_loading.proofs.Passed.{Passed, file_of}
-use Rattle.archive_reader.specs.Walks.{AllFrom, Leads, StandsNext, next_offset, volumes_from}
+use Rattle.archive_loading.proofs.Passed.{file_of}
+use Rattle.archive_reader.specs.Walks.{Leads, StandsNext, next_offset, volumes_from}
+use Rattle.archive_reader.proofs.Founds.{IsOf, is_of}
 use Rattle.archive_reader.proofs.Readable.{Built, built}
 use Rattle.archive_recovery.specs.declared.mending.Last.{Last}
-use Rattle.archive_recovery.specs.Damage.{HasEnd as LastEnd, IsVolumeEnd}
+use Rattle.archive_recovery.specs.Damage.{HasEnd as LastEnd}
 use Rattle.archive_recovery.proofs.Ends.{all_labelled, before_whole, labelled_before, unlisted}
 use Rattle.archive_recovery.proofs.LastVolume.{this_or_other}
 use Rattle.archive_recovery.proofs.OneVolume.{file_up_to}
@@ -42,8 +41,8 @@ use Rattle.archive_recovery.proofs.Surveying.{meta_mended, meta_within}
 use Rattle.archive_recovery.proofs.Volumes.{some_mended}
 use Rattle.log_export.specs.declared.planning.Plan.{Plan}
 use Rattle.log_export.specs.declared.walking.Walk.{Walk}
-use Rattle.log_export.specs.Exported.{IsExported, exported_entries, first_number, kept_entries, start_entry, with_first}
-use Rattle.log_export.specs.Planning.{FitsPlan, HasArchive, IsMetaEnd, IsPlanOf, first_of, index_label, index_text, is_bare, last_of, left_of, planned, planned_volume, up_to_last}
+use Rattle.log_export.specs.Exported.{IsExported, first_number, kept_entries, start_entry, with_first}
+use Rattle.log_export.specs.Planning.{AreCountable, HasArchive, IsMetaEnd, IsPlanOf, first_of, index_label, index_text, is_bare, last_of, left_of, planned, planned_volume, up_to_last}
 use Rattle.log_export.specs.Reading.{Walked}
 use Rattle.log_export.proofs.Halting.{Halts, halts}
 
@@ -371,7 +370,7 @@ module _ (files : Files) (l : LabelFields) (records : List MetaRecord) (es : Lis
     -- ---- all
 
     module _ (end : ℕ) (fit : FitVolumes end (planned_volume files (if is_bare vs then Some (label l (pos 0)) else None) (last_of end vs))) (p : Plan) (e : MetaEnd) (m : HasEnd (files Meta) l records e) (meta_is : p.meta ≡ e.end)
-        (index_is : p.index ≡ index_text (files Index) es l vs) (last_known : p.last ≡ last_of end vs) (given_known : p.given ≡ (if is_bare vs then Some (label l (pos 0)) else None)) (items_known : p.items ≡ count) where
+        (index_is : p.index ≡ index_text (files Index) es l vs) (last_known : p.last ≡ last_of end vs) (given_known : p.given ≡ (if is_bare vs then Some (label l (pos 0)) else None)) (items_known : p.items ≡ count) (countable : AreCountable files) where
       abbrev can : (t : List ℕ) × IsMendedIndex (files Index) contents t
       can = can_mend (files Index) contents is_archive.index
 
@@ -413,8 +412,29 @@ module _ (files : Files) (l : LabelFields) (records : List MetaRecord) (es : Lis
         fits = record {
           meta = let within : e.end ≡ length (take e.end (files Meta)) = meta_within (files Meta) l records e.end e.last m.has_label m.all in omega (arith, meta_is, within, length-take e.end (files Meta));
           last = subst (λ (o : Option Last). IfSome o (λ (x : Last). IfSome x.end (λ at. at ≤ length (files (Volume x.number))))) (sym last_known) fit.within;
+          countable = countable;
         };
       }
+
+-- ---- how many bytes the volumes have
+
+both : (x y : Bool) → (x && y) ≡ true → (x ≡ true) × (y ≡ true)
+both true y h = (refl, h)
+both false y h = (cc, cc)
+
+abbrev are_told : List (ℕ × ℕ) → Bool
+are_told vs = list_all (λ v. nat_lt v.1 18446744073709551615) vs
+
+each_told : (files : Files) (l : LabelFields) (n : ℕ) (vs : List (ℕ × ℕ)) → are_told vs ≡ true → AllByRecursion (IsHeaded files l) vs → IsOf n vs → length (files (Volume n)) < 18446744073709551615
+each_told files l n [] told all there = absurd there
+each_told files l n (v ∷ vs) told all (inl same) =
+    let less : v.1 < 18446744073709551615 = ltb-true v.1 18446744073709551615 (both (nat_lt v.1 18446744073709551615) (are_told vs) told).0 in
+    subst (λ (m : ℕ). length (files (Volume m)) < 18446744073709551615) same (omega (arith, all.0.0, less))
+each_told files l n (v ∷ vs) told all (inr there) = each_told files l n vs (both (nat_lt v.1 18446744073709551615) (are_told vs) told).1 all.1 there
+
+all_told : (files : Files) (l : LabelFields) (vs : List (ℕ × ℕ)) → are_told vs ≡ true → AllByRecursion (IsHeaded files l) vs → ((n : ℕ) → (Contains (numbers vs) n → ⊥) → files (Volume n) ≡ []) → AreCountable files
+all_told files l vs told all others =
+    λ n. ⊎_elim (λ (there : IsOf n vs). each_told files l n vs told all there) (λ (none : Contains (numbers vs) n → ⊥). omega (arith, ap length (others n none))) (is_of n vs)
 
 -- ---- of a walk
 
@@ -450,13 +470,13 @@ module _ (files : Files) (records : List MetaRecord) (es : List Entry) (vs : Lis
   archive_of (Some l) kept some = let f : Filled files l records es vs kept w.items = filled files l records es vs kept w walked in (contents files l records es vs kept w.items f, is_archive files l records es vs kept w.items f)
 
   pub planned_is : (label_kept : Option LabelFields) → IsKeptOf files label_kept records es vs → IsTrue (is_some label_kept) → (found : LabelFields × ℕ) → IsMetaEnd (files Meta) found → (p : Plan) → p.meta ≡ found.1 → p.index ≡ index_text (files Index) es found.0 vs
-      → p.last ≡ last_of (end_of vs w) vs → p.given ≡ (if is_bare vs then Some (label found.0 (pos 0)) else None) → p.items ≡ w.items → IsPlanOf files p
-  planned_is None kept some found m p meta index last given items = let both : false ≡ true = some in cc
-  planned_is (Some l) kept some (l2, end) (records2, e, is, has, end_is) p meta index last given items =
+      → p.last ≡ last_of (end_of vs w) vs → p.given ≡ (if is_bare vs then Some (label found.0 (pos 0)) else None) → p.items ≡ w.items → are_told vs ≡ true → IsPlanOf files p
+  planned_is None kept some found m p meta index last given items told = let both : false ≡ true = some in cc
+  planned_is (Some l) kept some (l2, end) (records2, e, is, has, end_is) p meta index last given items told =
       let same : SameFile l l2 (negsuc 0) (negsuc 0) records records2 kept.meta.torn is.torn =
       one_file IsRecord one_record (files Meta) l l2 (negsuc 0) (negsuc 0) records records2 kept.meta.torn is.torn kept.meta.holds is.holds kept.meta.is_torn is.is_torn in
       let f : Filled files l records es vs kept w.items = filled files l records es vs kept w walked in
       plan_is files l records es vs kept w.items f (end_of vs w) (fit_volumes files l records es vs kept w walked f) p e
       (subst (λ (x : LabelFields). HasEnd (files Meta) x records e) (sym same.label) (subst (λ rs. HasEnd (files Meta) l2 rs e) (sym same.values) has)) (meta ∙ end_is)
       (subst (λ (x : LabelFields). p.index ≡ index_text (files Index) es x vs) (sym same.label) index) last
-      (subst (λ (x : LabelFields). p.given ≡ (if is_bare vs then Some (label x (pos 0)) else None)) (sym same.label) given) items
+      (subst (λ (x : LabelFields). p.given ≡ (if is_bare vs then Some (label x (pos 0)) else None)) (sym same.label) given) items (all_told files l vs told kept.labelled.0 kept.others)

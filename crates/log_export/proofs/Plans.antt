@@ -1,20 +1,19 @@
 -- Small facts of what is planned.
-use Rattle.std.proofs.Common.{Bor, zero, suc, ◌≡◌, ◌≢◌, inl, inr, ⊎_elim, ℕ, ◌+◌, ◌-◌, ◌<◌, ◌≤◌, Bool, true, false, List, [], ◌∷◌, ◌++◌, length, take, drop, eq-eqb, refl, sym, ap, ◌∙◌, subst, append_assoc, arith, Option, Some, None}
+use Rattle.std.proofs.Common.{Bor, zero, suc, ◌≡◌, ◌≢◌, inl, inr, ℕ, ◌+◌, ◌-◌, ◌<◌, ◌≤◌, Bool, true, false, List, [], ◌∷◌, ◌++◌, length, take, drop, eq-eqb, refl, sym, ap, ◌∙◌, subst, append_assoc, arith, Option, Some, None}
 use Rattle.std.specs.Option.{option_copied}
 use Rattle.std.specs.Prelude.{IfSome, is_some, not, ◌==◌, if◌then◌else◌, nat_lt, slice_get, slice_index_or, unwrap_or}
 use Rattle.std.specs.List.{AllByRecursion}
 use Rattle.std.proofs.lemmas.Bool.{le-ltb, lt-ltb, ne_eqb}
-use Rattle.std.proofs.lemmas.List.{append-nil, drop_all, drop_more}
+use Rattle.std.proofs.lemmas.List.{drop_all, drop_more}
 use Rattle.std.proofs.lemmas.Option.{get_or_from_slice_get, slice_get_within}
 use Rattle.pcp_base.specs.declared.file.FileId.TheVariants.{Meta, Volume}
 use Rattle.pcp_model.specs.declared.records.Entry.{Entry}
 use Rattle.pcp_base.specs.declared.file.FileId.{FileId}
-use Rattle.pcp_model.specs.Archive.{ArchiveReading, IsStoppedCreation, Readable}
+use Rattle.pcp_model.specs.Archive.{ArchiveReading, IsStoppedCreation}
 use Rattle.pcp_model.specs.Disk.{Files}
 use Rattle.pcp_model.specs.LabelFields.{LabelFields}
 use Rattle.pcp_model.specs.Records.{IsRecord, entries, entry}
 use Rattle.pcp_model.proofs.Sound.{labelled_long}
-use Rattle.archive_loading.specs.LoadFaults.{MetaStops, NotLoaded}
 use Rattle.archive_loading.specs.Loaded.{IsKeptOf, IsOver, Loaded}
 use Rattle.archive_loading.specs.Metadata.{IsMetaPart}
 use Rattle.archive_loading.specs.declared.metadata.MetaPart.TheVariants.{Begun, Stops}

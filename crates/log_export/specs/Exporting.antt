@@ -1,5 +1,5 @@
 -- The export of a whole archive: what comes to stand, what a crash leaves meanwhile, and why it isn't done.
-use Rattle.std.specs.Prelude.{◌≡◌, ◌⊎◌, ℕ, List, [], length, None, Result, Ok, Err}
+use Rattle.std.specs.Prelude.{◌≡◌, ◌⊎◌, ℕ, [], length, None, Result, Ok, Err}
 use Rattle.pcp_base.specs.declared.file.FileId.{FileId}
 use Rattle.pcp_model.specs.Archive.{ArchiveContents, ArchiveReading, IsArchive, Reads, scan}
 use Rattle.pcp_model.specs.Disk.{Files, CrashImage, contents_of}
@@ -65,13 +65,13 @@ module _ {A D : Type 0} (p : ExportSide A D) where
   abbrev pub LeavesQuiet : Type 0
   LeavesQuiet = LeavesDisk × (p.disk.faults p.disk_is ≡ p.disk.faults p.disk_was)
 
-  -- It is done where nothing stood. Or something stands, and the source isn't touched. Or nothing stood, and the source is turned away, and nothing is
-  -- written; or a disk failed, or memory was refused.
+  -- It is done where nothing stood. Or something stands, and the source isn't touched. Or nothing stood, and the source is turned away or memory is
+  -- refused, and nothing is written; or a disk failed.
   abbrev pub Exports : Result ℕ ExportFault → Type 0
   Exports (Ok count) = IsQuiet × (p.disk.tells → WasFree) × (p.source.tells → p.disk.tells → HasExported count)
   Exports (Err (Stands file)) = LeavesQuiet × (p.source_is ≡ p.source_was) × (p.disk.tells → IsStanding files_were (p.disk.wrapped_file p.disk_was) file)
   Exports (Err (Source reads.DiskFault)) = (p.disk.tells → WasFree) × Rose (p.source.faults p.source_was) (p.source.faults p.source_is)
-  Exports (Err (Source reads.NoMemory)) = p.disk.tells → WasFree
+  Exports (Err (Source reads.NoMemory)) = LeavesQuiet × (p.disk.tells → WasFree)
   Exports (Err (Source fault)) = LeavesQuiet × (p.disk.tells → WasFree) × (p.source.tells → IsReadFault (p.source.wrapped_file p.source_was) source_files fault)
   Exports (Err DiskFault) = Rose (p.disk.faults p.disk_was) (p.disk.faults p.disk_is)
 

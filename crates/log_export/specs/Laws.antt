@@ -43,3 +43,7 @@ ExportKeepsSound = (files out : Files) (c : ArchiveContents) → IsArchive files
 -- it is one thing
 abbrev pub ExportIsOne : Type 0
 ExportIsOne = (files a b : Files) (r : ArchiveReading) → ExportsAs files r a → ExportsAs files r b → (file : FileId) → a file ≡ b file
+
+-- exported again it stays as it is
+abbrev pub ExportStays : Type 0
+ExportStays = (files out : Files) (r : ArchiveReading) → Reads files r → ExportsAs files r out → ExportsAs out (exported_reading files r) out

@@ -1,5 +1,5 @@
 -- The files as they are written, one after another: the index, the volumes by ascending number, and Meta last.
-use Rattle.std.specs.Prelude.{◌≡◌, ◌⊎◌, ℕ, ◌<◌, false, ◌==◌, if◌then◌else◌, nat_lt, List, [], take, Option, Some, OnOk, Result}
+use Rattle.std.specs.Prelude.{◌≡◌, ◌⊎◌, ℕ, ◌<◌, false, if◌then◌else◌, nat_lt, List, [], take, Some, OnOk, Result}
 use Rattle.pcp_base.specs.declared.file.FileId.{FileId}
 use Rattle.pcp_base.specs.declared.file.FileId.TheVariants.{Meta, Index, Volume}
 use Rattle.pcp_model.specs.Disk.{Files, Held, Holdings, nothing_held}

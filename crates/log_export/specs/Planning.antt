@@ -82,10 +82,15 @@ planned files p Meta = take p.meta (files Meta)
 planned files p Index = p.index
 planned files p (Volume n) = planned_volume files p.given p.last n
 
+-- each volume has fewer than 2^64 - 1 bytes
+abbrev pub AreCountable : Files → Type 0
+AreCountable files = (n : ℕ) → length (files (Volume n)) < 18446744073709551615
+
 -- the source's files are as long as the plan says
 pub record FitsPlan (files : Files) (p : Plan) : Type 0 where
   pub meta : p.meta ≤ length (files Meta)
   pub last : IfSome p.last (λ (l : Last). IfSome l.end (λ end. end ≤ length (files (Volume l.number))))
+  pub countable : AreCountable files
 
 -- a number that a volume may have
 abbrev pub IsLowPlan : Plan → Type 0

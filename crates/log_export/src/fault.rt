@@ -1,10 +1,8 @@
 //! Why an archive isn't exported.
 ghost use Rattle.std.specs.Prelude.{◌≡◌};
 ghost use Rattle.archive_reader.specs.declared.fault.ReaderFault.TheVariants as reads;
-ghost use Rattle.archive_reader.specs.Lacks.{of_lack};
 ghost use Rattle.log_export.specs.declared.fault.ExportFault.TheVariants.{DiskFault, Source};
 
-use archive_loading::Lack;
 use archive_reader::ReaderFault;
 use pcp_base::NoMemory;
 use pcp_outside::{Failed, FileId};
@@ -16,7 +14,7 @@ pub enum ExportFault {
     /// The file stands where the archive is to come to stand, under its name or under that with `.xz` or `.gz` added.
     #[error("a file stands there")]
     Stands { file: FileId },
-    /// The source isn't read, or it failed later, while it was copied. Want of memory is told so too; nothing is written then.
+    /// The source isn't read, or memory is refused: nothing is written then. Or the source's disk failed, where something may have been written.
     #[error("the source isn't read")]
     Source(ReaderFault),
     /// The disk that is written failed.
@@ -37,14 +35,6 @@ impl From<ReaderFault> for ExportFault {
 
     fn from(fault: ReaderFault) -> ExportFault {
         ExportFault::Source(fault)
-    }
-}
-
-impl From<Lack> for ExportFault {
-    ghost from_gives = { λ lack e. e ≡ Source (of_lack lack) };
-
-    fn from(lack: Lack) -> ExportFault {
-        ExportFault::Source(ReaderFault::from(lack))
     }
 }
 

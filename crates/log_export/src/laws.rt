@@ -1,5 +1,5 @@
 //! What holds of exports. Each is the contract of a function without parameters, which does nothing.
-ghost use Rattle.log_export.specs.Laws.{ExportBegins, ExportIsOne, ExportIsRead, ExportKeepsSound};
+ghost use Rattle.log_export.specs.Laws.{ExportBegins, ExportIsOne, ExportIsRead, ExportKeepsSound, ExportStays};
 
 /// An export is read as an archive with the source's scan and its records of Meta.
 pub fn export_is_read()
@@ -19,4 +19,9 @@ pub fn export_keeps_sound()
 /// It is one thing.
 pub fn export_is_one()
     ensures { ExportIsOne }
+{}
+
+/// An export of an export is itself.
+pub fn export_stays()
+    ensures { ExportStays }
 {}

@@ -13,5 +13,5 @@ mod walking;
 mod whole;
 
 pub use fault::ExportFault;
-pub use laws::{export_begins, export_is_one, export_is_read, export_keeps_sound};
+pub use laws::{export_begins, export_is_one, export_is_read, export_keeps_sound, export_stays};
 pub use whole::export_all;

@@ -1,5 +1,6 @@
 //! What is to be written of an archive, which is read for it and left as it is.
 ghost use Rattle.std.specs.Prelude.{◌≡◌, ◌++◌, [], IfErr, IfOk, IfSome, IsTrue, None, OnOk, Some, if◌then◌else◌, is_some, length, nat_lt, pos, slice_get};
+ghost use Rattle.std.specs.List.{list_all};
 ghost use Rattle.pcp_base.specs.declared.file.FileId.TheVariants.{Index as IndexFile, Meta};
 ghost use Rattle.pcp_model.specs.Disk.{contents_of};
 ghost use Rattle.pcp_model.specs.Labels.{label as spelled};
@@ -225,6 +226,13 @@ fn index_text<D: Disk>(
     Ok(List::from_vec(text))
 }
 
+/// Whether each of these volumes has fewer than 2^64 - 1 bytes, as it had when it was listed.
+fn are_countable(volumes: &[(u32, u64)]) -> bool
+    ensures { result ≡ list_all (λ v. nat_lt v.1 18446744073709551615) volumes.now }
+{
+    volumes.iter().all(|volume| volume.1 < u64::MAX)
+}
+
 /// Whether no volume of these, which aren't empty, has its label. Each but the last has it.
 fn is_bare(volumes: &[(u32, u64)]) -> bool
     ensures { result ≡ is_bare volumes.now }
@@ -317,9 +325,12 @@ fn plan_walked<D: Disk>(
     ensures cause { IfErr result (λ e. e ≡ DiskFault → Rose (D.faults disk.old) (D.faults disk.new)) }
     ensures quiet { OnOk result (D.faults disk.new ≡ D.faults disk.old) }
 {
+    let volumes = reader.volumes();
+    if !are_countable(volumes) {
+        return Err(ReaderFault::NoMemory);
+    }
     let (label, meta) = meta_end(alloc, disk)?;
     let size = length_of(disk, FileId::Index)?;
-    let volumes = reader.volumes();
     let index = index_text(alloc, disk, reader.index(), &label, volumes, size)?;
     let given = given_label(alloc, &label, is_bare(volumes))?;
     Ok(Plan {
@@ -341,8 +352,8 @@ pub(crate) fn plan_export<D: Disk>(alloc: Global, disk: &mut D) -> Result<Option
     ensures cause { IfErr result (λ e. e ≡ DiskFault → Rose (D.faults disk.old) (D.faults disk.new)) }
     ensures quiet { OnOk result (D.faults disk.new ≡ D.faults disk.old) }
 {
-    let mut reader = ArchiveReader::load(alloc, disk)?;
-    let walk = read_all(alloc, disk, &mut reader)?;
+    let reader = ArchiveReader::load(alloc, disk)?;
+    let walk = read_all(alloc, disk, &reader)?;
     if reader.label().is_none() {
         return Ok(None);
     }

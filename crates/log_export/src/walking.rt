@@ -19,23 +19,23 @@ pub(crate) struct Walk {
     pub end: Place,
 }
 
-/// Reads each record of the volumes, which has to be an item's.
+/// Reads each record of the volumes, which has to be an item's. Each is looked at in one buffer.
 pub(crate) fn read_all<D: Disk>(
     alloc: Global,
     disk: &mut D,
-    reader: &mut ArchiveReader,
+    reader: &ArchiveReader,
 ) -> Result<Walk, ReaderFault>
-    requires { D.tells → IsOver (contents_of (D.held disk.old)) reader.old }
-    ensures same { reader.new ≡ reader.old }
-    ensures walked { D.tells → IfOk result (Walked (contents_of (D.held disk.old)) reader.old.volumes) }
-    ensures fault { D.tells → IfErr result (IsRecordFault (contents_of (D.held disk.old)) reader.old) }
+    requires { D.tells → IsOver (contents_of (D.held disk.old)) reader.now }
+    ensures walked { D.tells → IfOk result (Walked (contents_of (D.held disk.old)) reader.now.volumes) }
+    ensures fault { D.tells → IfErr result (IsRecordFault (contents_of (D.held disk.old)) reader.now) }
     ensures looks { Looks D.Disk disk.old disk.new }
     ensures cause { IfErr result (λ e. e ≡ DiskFault → Rose (D.faults disk.old) (D.faults disk.new)) }
     ensures quiet { OnOk result (D.faults disk.new ≡ D.faults disk.old) }
 {
+    let mut frame = Vec::new(alloc);
     let mut end = reader.start();
     for items in 0..u64::MAX {
-        match reader.item_at(alloc, disk, end)? {
+        match reader.view_at(disk, end, &mut frame)? {
             Some((_, next)) => end = next,
             None => return Ok(Walk { items, end }),
         }

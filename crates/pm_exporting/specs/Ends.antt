@@ -1,5 +1,5 @@
 -- How a call that exports an archive ends. What is looked at first comes first: the words, the place, the source, then the writing; want of memory may
--- come at any place.
+-- come at any place but the writing.
 use Rattle.std.specs.Prelude.{◌≡◌, ◌⊎◌, ℕ, List, [], codes, Result, Ok, Err}
 use Rattle.pcp_outside.specs.Sides.{SinkSide}
 use Rattle.text_lines.specs.Spelling.{one_number}

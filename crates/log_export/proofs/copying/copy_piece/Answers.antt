@@ -1,5 +1,5 @@
 -- The piece is read, and then appended.
-use Rattle.std.proofs.Common.{ℕ, List, drop, length, take}
+use Rattle.std.proofs.Common.{drop, length, take}
 use Rattle.pcp_model.specs.Disk.{contents_of}
 use Rattle.archive_loading.proofs.Looking.{looked}
 use Rattle.log_export.proofs.Pieces.{appended, nothing_yet}

@@ -1,5 +1,5 @@
 -- The index, the volumes, and Meta.
-use Rattle.std.proofs.Common.{◌≡◌, ℕ, List, ◌++◌, take, refl, ap, ◌∙◌, subst, sym}
+use Rattle.std.proofs.Common.{◌≡◌, ℕ, List, ◌++◌, take, refl, ap, ◌∙◌, subst}
 use Rattle.pcp_base.specs.declared.file.FileId.TheVariants.{Meta, Index as IndexFile}
 use Rattle.pcp_model.specs.Disk.{Files, Holdings, contents_of}
 use Rattle.pcp_outside.specs.Devices.{Becomes, made_sure}

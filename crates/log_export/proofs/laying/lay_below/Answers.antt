@@ -1,9 +1,9 @@
 -- A volume more.
-use Rattle.std.proofs.Common.{◌≡◌, ⊎_elim, inl, inr, ℕ, ◌+◌, ◌<◌, ◌≤◌, List, length, refl, sym, ap, ◌∙◌, subst, arith}
+use Rattle.std.proofs.Common.{◌≡◌, ℕ, ◌<◌, length, refl, sym, ap, ◌∙◌, subst, arith}
 use Rattle.pcp_base.specs.declared.file.FileId.TheVariants.{Volume}
-use Rattle.pcp_model.specs.Disk.{Files, contents_of}
+use Rattle.pcp_model.specs.Disk.{Holdings, contents_of}
 use Rattle.archive_loading.proofs.Looking.{looks_none, looks_on}
-use Rattle.log_export.specs.Laying.{AgreeBelow, BeginsOnly, IsHeld, laid_to}
+use Rattle.log_export.specs.Laying.{IsHeld, laid_to}
 use Rattle.log_export.proofs.Laid.{fresh_volume, laid_part, no_ok, nothing_more, other_runs, runs_on, volume_laid}
 use Rattle.log_export.proofs.laying.lay_below.Goals as goal
 
@@ -15,6 +15,10 @@ loop-number-init g c = record {
   disk_quiet = refl;
   goes = λ source tells out agree start. (start, nothing_more out g.D.Disk g.met.D.Disk.only_now c.args.disk.now (laid_part out 0 (g.D.Disk.held c.args.disk.now) start));
 }
+
+pub lay_volume-requires-clause-countable : goal.lay_volume-requires-clause-countable
+lay_volume-requires-clause-countable g c = λ source.
+    subst (λ (h : Holdings). length (contents_of h (Volume c.loop-number.number)) < 18446744073709551615) (sym (c.loop-number.invariant.looks.held source)) (c.requires.countable source c.loop-number.number)
 
 pub returns-in_err-lay_volume-clause-lays : goal.returns-in_err-lay_volume-clause-lays
 returns-in_err-lay_volume-clause-lays g c = λ source tells out agree start.

@@ -1,5 +1,5 @@
 -- The first volume's label where none has its own, or the volumes up to the last one.
-use Rattle.std.proofs.Common.{◌≡◌, ℕ, ◌≤◌, List, [], ◌++◌, refl, sym, ap, ◌∙◌, Option, Some, None}
+use Rattle.std.proofs.Common.{◌≡◌, ℕ, List, ◌++◌, refl, sym, ap, ◌∙◌, Option}
 use Rattle.pcp_base.specs.declared.file.FileId.TheVariants.{Volume}
 use Rattle.pcp_model.specs.Disk.{Files, Holdings, contents_of, nothing_held}
 use Rattle.pcp_outside.specs.Devices.{Becomes, made_sure}

@@ -1,8 +1,8 @@
 -- An entry is of one of the volumes, or passed over.
-use Rattle.std.proofs.Common.{◌≡◌, ◌∙◌, ap, sym, true, false, ◌<◌, arith}
+use Rattle.std.proofs.Common.{◌≡◌, ◌∙◌, ap, sym, true, false, arith}
 use Rattle.std.specs.Prelude.{slice_get}
 use Rattle.archive_loading.specs.Loaded.{numbers}
-use Rattle.log_export.specs.Exported.{is_one_of, kept_entries}
+use Rattle.log_export.specs.Exported.{is_one_of}
 use Rattle.log_export.proofs.Plans.{keeps, none_there, passes}
 use Rattle.log_export.proofs.planning.first_kept.Goals.{in-Some+else-is_left, in_default}
 use Rattle.log_export.proofs.planning.first_kept.Goals as goal

@@ -1,7 +1,6 @@
 -- The source is loaded, read and planned.
-use Rattle.std.proofs.Common.{◌≡◌, refl, sym, ap, ◌∙◌, subst, Option, None}
+use Rattle.std.proofs.Common.{sym, ◌∙◌}
 use Rattle.pcp_model.specs.Disk.{contents_of}
-use Rattle.archive_loading.specs.Loaded.{Loaded}
 use Rattle.archive_loading.proofs.Looking.{looks_on}
 use Rattle.log_export.proofs.Laid.{err_handed}
 use Rattle.log_export.specs.Reading.{IsReadFault}
@@ -13,7 +12,7 @@ returns-in_err-walk-clause-looks g c = looks_on g.D.Disk c.args.disk.now c.load.
 
 pub returns-then-is_none-clause-planned : goal.returns-then-is_none-clause-planned
 returns-then-is_none-clause-planned g c = λ tells. stopped_of (contents_of (g.D.Disk.held c.args.disk.now)) c.in_ok-reader.reader (c.in_ok-reader.ensures.loaded tells)
-    (sym (ap (λ (r : Loaded). r.label) c.read_all.ensures.same) ∙ sym c.label.ensures ∙ copied_none c.label.result c.is_none.result c.is_none.ensures c.if-is_none.true)
+    (sym c.label.ensures ∙ copied_none c.label.result c.is_none.result c.is_none.ensures c.if-is_none.true)
 
 pub returns-then-is_none-clause-looks : goal.returns-then-is_none-clause-looks
 returns-then-is_none-clause-looks g c = looks_on g.D.Disk c.args.disk.now c.load.new.disk c.read_all.new.disk c.load.ensures.looks c.read_all.ensures.looks

@@ -1,6 +1,7 @@
 -- What is planned is the export of what was walked.
 use Rattle.std.proofs.Common.{◌≡◌, ℕ, pos, ◌<◌, Bool, ap, ◌∙◌, refl, subst, sym, Option, Some, None}
-use Rattle.std.specs.Prelude.{IfSome, if◌then◌else◌}
+use Rattle.std.specs.Prelude.{IfSome, if◌then◌else◌, nat_lt}
+use Rattle.std.specs.List.{list_all}
 use Rattle.pcp_base.specs.declared.file.FileId.TheVariants.{Index}
 use Rattle.pcp_model.specs.Disk.{Files, contents_of}
 use Rattle.pcp_model.specs.LabelFields.{LabelFields}
@@ -10,7 +11,7 @@ use Rattle.archive_reader.specs.Walks.{next_offset, volumes_from}
 use Rattle.archive_recovery.specs.declared.mending.Last.{Last}
 use Rattle.log_export.specs.declared.walking.Walk.{Walk}
 use Rattle.log_export.specs.Planning.{index_text, is_bare, last_of}
-use Rattle.archive_loading.proofs.Looking.{looks_on}
+use Rattle.archive_loading.proofs.Looking.{looks_none, looks_on}
 use Rattle.log_export.proofs.Planned.{archive_of, planned_is}
 use Rattle.log_export.proofs.Plans.{low_last}
 use Rattle.log_export.proofs.planning.plan_walked.Goals as goal
@@ -19,6 +20,9 @@ pub meta_end-requires : goal.meta_end-requires
 meta_end-requires g c = λ tells.
     let r = c.args.reader.now in
     archive_of (contents_of (g.D.Disk.held c.args.disk.now)) r.records r.entries r.volumes c.args.walk (c.requires.walked tells) r.label (c.requires.over tells) (c.requires.labelled tells)
+
+pub returns-then-not-are_countable-clause-looks : goal.returns-then-not-are_countable-clause-looks
+returns-then-not-are_countable-clause-looks g c = looks_none g.D.Disk g.met.D.Disk.only_now c.args.disk.now
 
 pub returns-in_err-index-clause-looks : goal.returns-in_err-index-clause-looks
 returns-in_err-index-clause-looks g c =
@@ -50,6 +54,7 @@ returns-clause-plan g c = λ tells.
     (c.last_of.ensures ∙ ap (λ vs. last_of c.offset_behind.result vs) volumes ∙ ap (λ at. last_of at r.volumes) (c.offset_behind.ensures ∙ ap (λ vs. next_offset (volumes_from w.end.volume vs) w.end.offset) volumes))
     (c.in_ok-given.ensures ∙ ap (λ (b : Bool). if b then Some (label label_is (pos 0)) else None) (c.is_bare.ensures ∙ ap is_bare volumes))
     refl
+    (sym (c.are_countable.ensures ∙ ap (list_all (λ (v : ℕ × ℕ). nat_lt v.1 18446744073709551615)) volumes) ∙ c.if-not-are_countable.false)
 
 pub returns-clause-low : goal.returns-clause-low
 returns-clause-low g c =

@@ -1,8 +1,6 @@
 -- An entry more, if it is of one of the volumes.
-use Rattle.std.proofs.Common.{◌≡◌, ◌++◌, ◌∙◌, ap, sym, ◌<◌, arith, subst, drop}
-use Rattle.pcp_model.specs.Records.{entries}
+use Rattle.std.proofs.Common.{◌∙◌, ap, sym, arith}
 use Rattle.archive_loading.specs.Loaded.{numbers}
-use Rattle.log_export.specs.Exported.{kept_entries}
 use Rattle.log_export.proofs.Plans.{none_there, put_more}
 use Rattle.log_export.proofs.planning.put_entries.Goals.{in-Some+in_ok-put_kept, in_default}
 use Rattle.log_export.proofs.planning.put_entries.Goals as goal

@@ -1,5 +1,5 @@
 -- The volumes are counted, and one after another looked at.
-use Rattle.std.proofs.Common.{◌≡◌, ◌∙◌, ℕ, length, subst, arith}
+use Rattle.std.proofs.Common.{◌≡◌, ◌∙◌, length, subst, arith}
 use Rattle.pcp_base.specs.declared.file.FileId.TheVariants.{Volume}
 use Rattle.pcp_model.specs.Disk.{contents_of}
 use Rattle.pcp_outside.specs.Causes.{shown_count}

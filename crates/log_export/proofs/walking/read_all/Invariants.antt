@@ -9,6 +9,5 @@ abbrev pub invariant-loop-items : goal.invariant-loop-items
 invariant-loop-items g l = record {
   looks : Looks g.D.Disk l.fn.disk l.disk;
   quiet : g.D.Disk.faults l.disk ≡ g.D.Disk.faults l.fn.disk;
-  same : l.reader ≡ l.fn.reader;
-  so_far : g.D.Disk.tells → IsSoFar (contents_of (g.D.Disk.held l.fn.disk)) l.fn.reader.volumes l.end l.items;
+  so_far : g.D.Disk.tells → IsSoFar (contents_of (g.D.Disk.held l.fn.disk)) l.reader.volumes l.end l.items;
 }

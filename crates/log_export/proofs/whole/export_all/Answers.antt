@@ -1,11 +1,10 @@
 -- What stands, what the source is, and what is laid.
-use Rattle.std.proofs.Common.{◌≡◌, refl, sym, ◌∙◌, subst, Option, None, Some}
+use Rattle.std.proofs.Common.{refl, sym, ◌∙◌, subst, Option}
 use Rattle.pcp_base.specs.declared.file.FileId.{FileId}
-use Rattle.pcp_model.specs.Archive.{IsStoppedCreation}
 use Rattle.pcp_model.specs.Disk.{Files, Holdings, contents_of, nothing_held}
 use Rattle.archive_loading.proofs.Looking.{looks_on}
 use Rattle.log_export.specs.declared.planning.Plan.{Plan}
-use Rattle.log_export.specs.Exporting.{ExportSide, export_side}
+use Rattle.log_export.specs.Exporting.{export_side}
 use Rattle.log_export.specs.Laying.{BeginsOnly, IsHeld, LaysWhole, whole}
 use Rattle.log_export.specs.Planning.{IsPlanOf, IsPlanned, planned}
 use Rattle.log_export.specs.Standing.{IsFirstStanding, IsFree}
