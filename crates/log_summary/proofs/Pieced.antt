@@ -1,5 +1,5 @@
 -- What stands in a piece of a volume stands in the volume.
-use Rattle.std.proofs.Common.{◌≡◌, inl, inr, ⊎_elim, ℕ, ◌+◌, ◌-◌, ◌<◌, ◌≤◌, List, [], ◌∷◌, ◌++◌, length, take, drop, fold, refl, sym, ap, ◌∙◌, subst, append_assoc, arith}
+use Rattle.std.proofs.Common.{◌≡◌, inl, inr, ⊎_elim, ℕ, ◌+◌, ◌-◌, ◌≤◌, List, [], ◌∷◌, ◌++◌, length, take, drop, fold, sym, ap, ◌∙◌, subst, append_assoc, arith}
 use Rattle.std.specs.Int.{w32, from_be_bytes}
 use Rattle.std.proofs.lemmas.Bool.{cases_lt}
 use Rattle.std.proofs.lemmas.List.{length-append, length-drop, length-take, take-append-drop, take-take, drop-take, drop-drop, take_all}
@@ -12,13 +12,18 @@ use Rattle.pcp_model.specs.declared.records.MetaRecord.{MetaRecord}
 use Rattle.pcp_model.specs.Frame.{frame, IsTorn}
 use Rattle.archive_frame.specs.Steps.{Stands}
 use Rattle.archive_frame.proofs.Records.{Ends, stood}
-use Rattle.archive_loading.specs.Standing.{ItemStands, NoItemStands, IsSized, WasTaken}
+use Rattle.archive_loading.specs.Standing.{NoItemStands, IsSized, WasTaken}
 use Rattle.archive_loading.proofs.Frames.{in_place, out_of_place}
 use Rattle.archive_reader.specs.Searches.{between}
+use Rattle.pcp_base.specs.declared.file.FileId.TheVariants.{Volume}
+use Rattle.pcp_model.specs.Disk.{Files}
+use Rattle.log_summary.specs.declared.job.Job.{Job}
+use Rattle.log_summary.specs.declared.piece.Piece.{Piece}
+use Rattle.log_summary.specs.Jobs.{IsPiece, IsReadOf}
 use Rattle.log_summary.specs.Tables.{Rows, counted}
 use Rattle.log_summary.specs.Pieces.{IsWalked}
 use Rattle.log_summary.specs.Values.{values_of}
-use Rattle.log_summary.specs.Volumes.{SoFar, StandUpTo, table_between}
+use Rattle.log_summary.specs.Volumes.{SoFar, StandUpTo}
 use Rattle.log_summary.proofs.Walked.{both_between}
 
 -- records behind records
@@ -44,6 +49,13 @@ more_read bytes old new base count offset was at is =
     ∙ ap (λ l. take (length old) left ++ take count l) (ap (λ n. drop n bytes) at ∙ sym (drop-drop (length old) base bytes))
     ∙ sym (take-add (length old) count left) in
     whole ∙ own_length (length old + count) left ∙ ap (λ (l : List ℕ). take (length l) left) (sym whole)
+
+-- a piece that follows what was read of a volume
+pub piece_read : (files : Files) (j : Job) (p : Piece) (new : List ℕ) → IsReadOf files j → IsPiece files p → p.number ≡ j.number → p.at ≡ j.at + length j.bytes.items → new ≡ j.bytes.items ++ p.bytes.items
+    → new ≡ take (length new) (drop j.at (files (Volume j.number)))
+piece_read files j p new read stands number at is =
+    more_read (files (Volume j.number)) j.bytes.items new j.at (length p.bytes.items) p.at read.is at
+    (is ∙ ap (λ l. j.bytes.items ++ l) (stands ∙ ap (λ n. take (length p.bytes.items) (drop p.at (files (Volume n)))) number))
 
 -- a piece stands in the bytes from an offset on
 module _ (bytes piece : List ℕ) (base : ℕ) (is : piece ≡ take (length piece) (drop base bytes)) where

@@ -1,8 +1,9 @@
 -- Jobs, what they come to, and the volumes so far.
-use Rattle.std.proofs.Common.{zero, suc, ◌≡◌, ◌⊎◌, inl, inr, ℕ, ◌+◌, ◌<◌, ◌≤◌, Bool, true, false, nat_eq, List, [], ◌∷◌, ◌++◌, length, drop, refl, sym, ap, ◌∙◌, subst, take, arith}
-use Rattle.std.specs.Prelude.{slice_index_or}
+use Rattle.std.proofs.Common.{zero, suc, ◌≡◌, ◌⊎◌, inl, inr, ℕ, ◌+◌, ◌<◌, ◌≤◌, Bool, true, false, nat_eq, List, [], ◌∷◌, ◌++◌, length, drop, refl, sym, ap, ◌∙◌, subst, take, arith, Option, Some, None}
+use Rattle.std.specs.Prelude.{option_to_list, slice_index_or}
 use Rattle.std.proofs.lemmas.Bool.{eqb-true, eqb-false}
-use Rattle.std.proofs.lemmas.List.{length-drop}
+use Rattle.std.proofs.Math.ListN.{get_or}
+use Rattle.std.proofs.lemmas.List.{drop_more, length-drop}
 use Rattle.std.specs.List.{AllByRecursion}
 use Rattle.archive_loading.specs.Loaded.{IsMeasured}
 use Rattle.pcp_base.specs.Time.{Moment}
@@ -17,8 +18,9 @@ use Rattle.archive_reader.specs.declared.fault.ReaderFault.{ReaderFault}
 use Rattle.archive_reader.specs.declared.fault.ReaderFault.TheVariants.{NotArchive, DiskFault, NoMemory}
 use Rattle.log_summary.specs.declared.job.Job.{Job}
 use Rattle.log_summary.specs.declared.job.Progress.{Progress}
+use Rattle.log_summary.specs.declared.piece.Piece.{Piece}
 use Rattle.log_summary.specs.declared.job.Progress.TheVariants.{Done, Broken}
-use Rattle.log_summary.specs.Jobs.{is_empty, Counts, IsAsFar, IsRead, IsReadOn, IsReadOf, IsNewJob, IsSame, IsCountedOn, IsJob, AreJobs, AreRead, AreReadOn, AreCountedOn, IsStop, MergesAll, StopsWith}
+use Rattle.log_summary.specs.Jobs.{is_empty, Counts, IsAsFar, IsRead, IsReadOn, IsReadOf, IsNewJob, IsPiece, IsCountedOn, IsJob, AreJobs, AreNext, AreRead, AreReadOn, AreCountedOn, LeadOn, MergesAll, StopsWith}
 use Rattle.log_summary.specs.Summaries.{GoOn, IsSoFar, IsTableOf}
 use Rattle.log_summary.specs.Tables.{Rows, merged, table_of}
 use Rattle.log_summary.specs.Values.{values_of}
@@ -103,6 +105,29 @@ module _ (files : Files) (records : List MetaRecord) (from to : Moment) where
   jobs_counted_on n [] (j ∷ js) (k ∷ ks) rest on are = absurd are
   jobs_counted_on n (v ∷ vs) (j ∷ js) (k ∷ ks) rest on are = (counted_on n v vs j k on.0 are.0, jobs_counted_on (n + 1) vs js ks rest on.1 are.1)
 
+module _ (files : Files) (records : List MetaRecord) (from to : Moment) where
+  -- jobs that are counted, and then read on
+  pub lead_counted_read : (js ks ls : List Job) (pieces : List Piece) → AreCountedOn records from to js ks → (AreRead files ks → AllByRecursion (IsPiece files) pieces → AreReadOn files ks ls)
+      → AllByRecursion (IsPiece files) pieces → LeadOn files records from to js ls
+  lead_counted_read js ks ls pieces counted on stand = λ n vs rest are.
+      let so_far : AreJobs files records from to n vs ks rest = jobs_counted_on files records from to n vs js ks rest counted are in
+      jobs_read_on files records from to n vs ks ls rest (on (jobs_read files records from to n vs ks rest so_far) stand) so_far
+
+  pub lead_counted : (js ks : List Job) → AreCountedOn records from to js ks → LeadOn files records from to js ks
+  lead_counted js ks counted = λ n vs rest are. jobs_counted_on files records from to n vs js ks rest counted are
+
+  pub lead_read : (js ks : List Job) → AreReadOn files js ks → LeadOn files records from to js ks
+  lead_read js ks on = λ n vs rest are. jobs_read_on files records from to n vs js ks rest on are
+
+  pub next_read : (volumes : List (ℕ × ℕ)) (index : ℕ) (js : List Job) → AreNext files records from to volumes index js → AreRead files js
+  next_read volumes index js are = jobs_read files records from to 0 (drop index volumes) js (drop (index + length js) volumes) are
+
+  -- the same volumes, further on
+  pub next_lead : (volumes : List (ℕ × ℕ)) (index : ℕ) (js ks : List Job) → length ks ≡ length js → LeadOn files records from to js ks
+      → AreNext files records from to volumes index js → AreNext files records from to volumes index ks
+  next_lead volumes index js ks long lead are =
+      subst (λ n. AreJobs files records from to 0 (drop index volumes) ks (drop (index + n) volumes)) (sym long) (lead 0 (drop index volumes) (drop (index + length js) volumes) are)
+
 pub none_behind : (vs : List (ℕ × ℕ)) (at : ℕ) → at ≤ length vs → nat_eq at (length vs) ≡ is_empty (drop at vs)
 none_behind vs at le = by (nat_eq at (length vs)) refl (drop at vs) refl
   where
@@ -111,6 +136,20 @@ none_behind vs at le = by (nat_eq at (length vs)) refl (drop at vs) refl
     by true e (x ∷ ds) d = absurd (omega (arith, eqb-true at (length vs) e, length-drop at vs, ap length d))
     by false e [] d = absurd (eqb-false at (length vs) e (omega (arith, length-drop at vs, ap length d, le)))
     by false e (x ∷ ds) d = refl
+
+-- what holds of each that is left holds of the next, and of those behind it
+pub each_left : {X : Type 0} (P : X → Type 0) (xs : List X) (i : ℕ) (d : X) → i < length xs → AllByRecursion P (drop i xs) → P (get_or xs i d) × AllByRecursion P (drop (i + 1) xs)
+each_left P xs i d lt all = subst (AllByRecursion P) (drop_more xs i d lt) all
+
+-- what holds of all that come holds of those behind the next, and of the next
+pub each_behind : {X : Type 0} (P : X → Type 0) (o : Option X) (xs ys : List X) → ys ≡ option_to_list o ++ xs → AllByRecursion P ys → AllByRecursion P xs
+each_behind P None xs ys is all = subst (AllByRecursion P) is all
+each_behind P (Some x) xs ys is all = let all_of : AllByRecursion P (x ∷ xs) = subst (AllByRecursion P) is all in all_of.1
+
+pub each_next : {X : Type 0} (P : X → Type 0) (o : Option X) (x : X) (xs ys : List X) → o ≡ Some x → ys ≡ option_to_list o ++ xs → AllByRecursion P ys → P x
+each_next {X = X} P o x xs ys some is all =
+    let all_of : AllByRecursion P (x ∷ xs) = subst (AllByRecursion P) (is ∙ ap (λ (p : Option X). option_to_list p ++ xs) some) all in
+    all_of.0
 
 -- a volume is as long as its file
 pub measured_at : (files : Files) (vs : List (ℕ × ℕ)) (i : ℕ) → AllByRecursion (IsMeasured files) vs → i < length vs → IsMeasured files (slice_index_or vs i (0, 0))

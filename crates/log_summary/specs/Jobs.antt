@@ -1,5 +1,5 @@
 -- Volumes that workers count, piece by piece, and what they come to.
-use Rattle.std.specs.Prelude.{◌≡◌, ◌⊎◌, ℕ, ◌+◌, Bool, true, false, List, [], ◌∷◌, length, take, drop}
+use Rattle.std.specs.Prelude.{◌≡◌, ◌⊎◌, ℕ, ◌+◌, ◌<◌, ◌≤◌, Bool, true, false, List, [], ◌∷◌, length, take, drop}
 use Rattle.std.specs.List.{AllByRecursion}
 use Rattle.pcp_base.specs.Time.{Moment}
 use Rattle.pcp_base.specs.declared.file.FileId.TheVariants.{Volume}
@@ -10,6 +10,8 @@ use Rattle.archive_reader.specs.declared.fault.ReaderFault.TheVariants.{NotArchi
 use Rattle.log_summary.specs.declared.job.Job.{Job}
 use Rattle.log_summary.specs.declared.job.Progress.{Progress}
 use Rattle.log_summary.specs.declared.job.Progress.TheVariants.{Open, Done, Broken, Refused}
+use Rattle.log_summary.specs.declared.piece.Piece.{Piece}
+use Rattle.log_summary.specs.declared.piece.Want.{Want}
 use Rattle.log_summary.specs.Tables.{Rows, merged}
 use Rattle.log_summary.specs.Volumes.{SoFar, IsCounted, IsBroken}
 
@@ -79,6 +81,14 @@ IsReadOf files j = IsRead (files (Volume j.number)) j
 abbrev pub AreRead : Files → List Job → Type 0
 AreRead files js = AllByRecursion (IsReadOf files) js
 
+-- what is wanted of a volume lies in its file
+abbrev pub IsWithin : Files → Want → Type 0
+IsWithin files w = 0 < w.count → w.at + w.count ≤ length (files (Volume w.number))
+
+-- the piece stands in the file
+abbrev pub IsPiece : Files → Piece → Type 0
+IsPiece files p = p.bytes.items ≡ take (length p.bytes.items) (drop p.at (files (Volume p.number)))
+
 -- of each volume more is read
 abbrev pub AreReadOn : Files → List Job → List Job → Type 0
 AreReadOn files [] [] = Unit {0}
@@ -90,6 +100,14 @@ abbrev pub AreCountedOn : List MetaRecord → Moment → Moment → List Job →
 AreCountedOn records from to [] [] = Unit {0}
 AreCountedOn records from to (j ∷ js) (k ∷ ks) = IsCountedOn records from to j k × AreCountedOn records from to js ks
 AreCountedOn records from to js ks = Unit {0} → ⊥
+
+-- the jobs are the first of the volumes from a position on
+abbrev pub AreNext : Files → List MetaRecord → Moment → Moment → List (ℕ × ℕ) → ℕ → List Job → Type 0
+AreNext files records from to volumes index js = AreJobs files records from to 0 (drop index volumes) js (drop (index + length js) volumes)
+
+-- more is read or counted of the same volumes
+abbrev pub LeadOn : Files → List MetaRecord → Moment → Moment → List Job → List Job → Type 0
+LeadOn files records from to js ks = (worker : ℕ) (vs rest : List (ℕ × ℕ)) → AreJobs files records from to worker vs js rest → AreJobs files records from to worker vs ks rest
 
 -- ---- what they come to
 

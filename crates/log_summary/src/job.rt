@@ -1,24 +1,22 @@
 //! A volume that a worker counts, piece by piece.
-ghost use Rattle.std.specs.Prelude.{◌≡◌, ◌||◌, ℕ, List, ◌+◌, ◌-◌, ◌<◌, ◌≤◌, ◌++◌, true, nat_eq, nat_le, length, min, take, drop, IfOk, IfErr, OnOk};
-ghost use Rattle.pcp_base.specs.declared.file.FileId.TheVariants.{Volume};
-ghost use Rattle.pcp_model.specs.Disk.{contents_of};
+ghost use Rattle.std.specs.Prelude.{◌≡◌, ◌||◌, ℕ, List, ◌+◌, ◌-◌, ◌≤◌, true, nat_eq, nat_le, length, min, drop, IfOk};
+ghost use Rattle.pcp_model.specs.Disk.{Files};
 ghost use Rattle.pcp_base.specs.Time.{Moment};
 ghost use Rattle.pcp_model.specs.declared.records.MetaRecord.{MetaRecord};
 ghost use Rattle.pcp_model.specs.Frame.{IsTorn};
-ghost use Rattle.archive_loading.specs.Looks.{Looks, Blames};
 ghost use Rattle.log_summary.specs.declared.job.Progress.TheVariants.{Open as IsOpen};
-ghost use Rattle.log_summary.specs.Jobs.{Counts, IsRead, IsReadOf, IsReadOn, IsSame, IsCountedOn};
+ghost use Rattle.log_summary.specs.Jobs.{Counts, IsPiece, IsRead, IsReadOf, IsReadOn, IsSame, IsCountedOn, IsWithin};
 ghost use Rattle.log_summary.specs.Volumes.{SoFar, IsBroken};
 
+use crate::piece::{Piece, Want};
 use crate::table::Table;
 use crate::walking::{Stop, count_whole};
-use archive_loading::Lack;
 use archive_meta::MetaState;
 use pcp_base::{NoMemory, Stamp};
-use pcp_outside::{Disk, FileId, Turn};
+use pcp_outside::Turn;
 
 /// How many bytes of a volume are read at a time, at most.
-const PIECE: u64 = 1_048_576;
+const PIECE: u64 = 2_097_152;
 
 /// How far a volume is counted.
 #[derive(Clone, Copy)]
@@ -66,65 +64,58 @@ impl Job {
     }
 }
 
-fn make_room(out: &mut Vec<u8>, count: usize) -> Result<(), NoMemory>
-    requires { length out.old.items + count < 18446744073709551616 }
-    ensures held { OnOk result ((length out.new.items ≡ length out.old.items + count) × (take (length out.old.items) out.new.items ≡ out.old.items)) }
-{
-    let held = out.len();
-    out.resize(held + count, 0)?;
-    Ok(())
-}
-
-// Puts bytes of a volume, from an offset on, behind what the buffer holds.
-fn take_bytes<D: Disk>(
-    disk: &mut D,
-    number: u32,
-    at: u64,
-    count: usize,
-    out: &mut Vec<u8>,
-) -> Result<(), Lack>
-    requires numbered { number < 4294967295 }
-    requires room { length out.old.items + count < 18446744073709551616 }
-    requires within { D.tells → at + count ≤ length (contents_of (D.held disk.old) (Volume number)) }
-    ensures bytes { D.tells → OnOk result (out.new.items ≡ out.old.items ++ take count (drop at (contents_of (D.held disk.old) (Volume number)))) }
-    ensures looks { Looks D.Disk disk.old disk.new }
-    ensures cause { IfErr result (Blames D.Disk disk.old disk.new) }
-    ensures quiet { OnOk result (D.faults disk.new ≡ D.faults disk.old) }
-{
-    let held = out.len();
-    make_room(out, count)?;
-    disk.read(FileId::Volume(number), at, &mut out[held..])?;
-    Ok(())
-}
-
-// How many bytes are read next: a piece, unless fewer are left.
+// How many bytes of the volume are read next: a piece, unless fewer are left.
 fn piece_of(job: &Job) -> u64
-    ensures { result ≡ min 1048576 (job.now.end - job.now.at - length job.now.bytes.items) }
+    ensures { result ≡ min 2097152 (job.now.end - job.now.at - length job.now.bytes.items) }
 {
     let left = job.end.saturating_sub(job.at);
     let unread = left.saturating_sub(job.bytes.len() as u64);
     unread.min(PIECE)
 }
 
-/// Puts the next piece of a volume behind what was read of it. No volume has the greatest number of 32 bits.
-pub fn with_piece<D: Disk>(disk: &mut D, job: Job) -> Result<Job, Lack>
-    requires { D.tells → IsReadOf (contents_of (D.held disk.old)) job }
-    ensures on { IfOk result (IsReadOn job) }
-    ensures read { D.tells → IfOk result (IsReadOf (contents_of (D.held disk.old))) }
-    ensures looks { Looks D.Disk disk.old disk.new }
-    ensures cause { IfErr result (Blames D.Disk disk.old disk.new) }
-    ensures quiet { OnOk result (D.faults disk.new ≡ D.faults disk.old) }
+/// What is to be read next of a volume.
+pub fn want_of(job: &Job) -> Want
+    ensures { (files : Files) → IsReadOf files job.now → IsWithin files result }
 {
-    if job.number == u32::MAX {
-        return Err(Lack::Memory);
+    let number = job.number;
+    let Some(at) = job.at.checked_add(job.bytes.len() as u64) else {
+        return Want {
+            number,
+            at: job.at,
+            count: 0,
+        };
+    };
+    let count = piece_of(job);
+    Want { number, at, count }
+}
+
+// Whether the bytes of a piece are the ones behind what was read.
+fn follows(job: &Job, piece: &Piece) -> bool
+    ensures { result ≡ true → (piece.now.number ≡ job.now.number) × (piece.now.at ≡ job.now.at + length job.now.bytes.items) }
+{
+    if piece.number != job.number {
+        return false;
     }
-    let count = piece_of(&job);
-    if count == 0 {
+    match piece.at.checked_sub(job.at) {
+        Some(read) => read == job.bytes.len() as u64,
+        None => false,
+    }
+}
+
+/// Puts a piece behind what was read of a volume, if it is what follows there.
+pub fn with_piece(job: Job, piece: Piece) -> Result<Job, NoMemory>
+    ensures on { IfOk result (IsReadOn job) }
+    ensures read { (files : Files) → IsReadOf files job → IsPiece files piece → IfOk result (IsReadOf files) }
+{
+    if !follows(&job, &piece) {
         return Ok(job);
     }
     let mut job = job;
-    let offset = job.at + job.bytes.len() as u64;
-    take_bytes(disk, job.number, offset, count as usize, &mut job.bytes)?;
+    if job.bytes.is_empty() {
+        job.bytes = piece.bytes;
+        return Ok(job);
+    }
+    job.bytes.extend_from_slice(piece.bytes.as_slice())?;
     Ok(job)
 }
 

@@ -8,6 +8,7 @@ mod jobs;
 mod laws;
 mod lines;
 mod numbers;
+mod piece;
 mod summing;
 mod table;
 mod tally;

@@ -1,5 +1,5 @@
 -- One item more, or the place where the whole records end.
-use Rattle.std.proofs.Common.{sym, subst}
+use Rattle.std.proofs.Common.{subst}
 use Rattle.archive_volume.specs.Items.{item_of}
 use Rattle.log_summary.specs.Pieces.{IsFound}
 use Rattle.log_summary.proofs.Walked.{walked_none, walked_on}

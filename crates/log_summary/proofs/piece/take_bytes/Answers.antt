@@ -1,6 +1,6 @@
 -- The call only looks.
 use Rattle.archive_loading.proofs.Looking.{looks_none, looked}
-use Rattle.log_summary.proofs.job.take_bytes.Goals as goal
+use Rattle.log_summary.proofs.piece.take_bytes.Goals as goal
 
 pub returns-in_err-make_room-clause-looks : goal.returns-in_err-make_room-clause-looks
 returns-in_err-make_room-clause-looks g c = looks_none g.D.Disk g.met.D.Disk.only_now c.args.disk.now
