@@ -1,6 +1,6 @@
 -- Eight bytes are a number.
-use Rattle.std.proofs.Common.{◌≡◌, ℕ, ◌+◌, ◌==◌, cond, nat_lt, nat_eq, List, length, take, drop, refl, sym, ap, ◌∙◌, arith, Option, Some, None}
-use Rattle.std.specs.Int.{w64, byte_len, from_be_bytes}
+use Rattle.std.proofs.Common.{◌≡◌, ℕ, cond, nat_lt, nat_eq, List, length, take, sym, ap, ◌∙◌, arith, Some, None}
+use Rattle.std.specs.Int.{w64, from_be_bytes}
 use Rattle.std.proofs.lemmas.List.{take_all}
 use Rattle.pcp_base.specs.Fields.{be_field}
 use Rattle.pm_print.specs.Values.{number_in}

@@ -1,5 +1,5 @@
 -- A text that ends at its only zero byte.
-use Rattle.std.proofs.Common.{◌≡◌, ◌≢◌, ℕ, zero, suc, ◌+◌, ◌<◌, ◌≤◌, Bool, true, false, cond, nat_eq, List, [], ◌∷◌, length, take, refl, sym, ap, ◌∙◌, arith, Option, Some, None, option_map}
+use Rattle.std.proofs.Common.{◌≡◌, ◌≢◌, ℕ, zero, suc, ◌+◌, ◌<◌, Bool, true, false, cond, nat_eq, List, [], ◌∷◌, length, take, refl, ap, ◌∙◌, arith, Some, None, option_map}
 use mathlib.Core.Logic.{⊎_elim, inl, inr, ◌⊎◌}
 use Rattle.memchr.specs.Find.{Passes, is_byte, Nowhere}
 use Rattle.pm_print.specs.Values.{before_zero}

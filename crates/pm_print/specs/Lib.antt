@@ -6,7 +6,9 @@ pub mod Holding
 pub mod Infos
 pub mod Items
 pub mod Laws
+pub mod Rising
 pub mod Rows
 pub mod Sets
 pub mod Stamps
+pub mod Starts
 pub mod Values

@@ -1,7 +1,8 @@
 //! Items and sets as text.
-ghost use Rattle.std.specs.Prelude.{◌≡◌, ◌++◌, IfOk, OnOk};
+ghost use Rattle.std.specs.Prelude.{◌≡◌, ◌++◌, ◌∷◌, [], decimal, IfOk, OnOk};
 ghost use Rattle.pcp_base.specs.declared.result.Item.TheVariants.{Sample, Mark};
 ghost use Rattle.pm_print.specs.Items.{sets_lines, item_text, set_text};
+ghost use Rattle.pm_print.specs.Stamps.{stamp_text};
 
 use crate::sets::put_set;
 use crate::stamps::put_stamp;
@@ -25,6 +26,17 @@ fn put_sets(
     Ok(())
 }
 
+/// The line before those of a sample's sets: its stamp, and how many they are.
+pub fn put_front(out: &mut Vec<u8>, stamp: Stamp, count: usize) -> Result<(), NoMemory>
+    ensures { OnOk result (out.new.items ≡ out.old.items ++ (stamp_text stamp ++ (32 ∷ (decimal count ++ 10 ∷ [])))) }
+{
+    put_stamp(out, stamp)?;
+    out.push(b' ')?;
+    put_decimal(out, count as u64)?;
+    out.push(b'\n')?;
+    Ok(())
+}
+
 #[tactic(auto, unfolding(crate::specs::Items::item_text))]
 fn put_sample(
     alloc: Global,
@@ -34,15 +46,13 @@ fn put_sample(
 ) -> Result<(), NoMemory>
     ensures { OnOk result (out.new.items ≡ out.old.items ++ item_text meta.now (Sample sample.now)) }
 {
-    put_stamp(out, sample.stamp)?;
-    out.push(b' ')?;
-    put_decimal(out, sample.sets.len() as u64)?;
-    out.push(b'\n')?;
+    put_front(out, sample.stamp, sample.sets.len())?;
     put_sets(alloc, out, meta, sample.stamp, sample.sets.as_slice())
 }
 
+/// A mark's line: its stamp and `mark`.
 #[tactic(auto, unfolding(crate::specs::Items::item_text))]
-fn put_mark(out: &mut Vec<u8>, stamp: Stamp, meta: &MetaState) -> Result<(), NoMemory>
+pub fn put_mark(out: &mut Vec<u8>, stamp: Stamp, meta: &MetaState) -> Result<(), NoMemory>
     ensures { OnOk result (out.new.items ≡ out.old.items ++ item_text meta.now (Mark stamp)) }
 {
     put_stamp(out, stamp)?;

@@ -8,7 +8,7 @@ ghost use Rattle.pm_print.specs.Sets.{pmid_text, first_name, head_text, value_li
 use crate::instances::Instances;
 use crate::values::{put_block, put_decimal, put_signed, put_word};
 use archive_meta::MetaState;
-use pcp_base::{Block, Body, NoMemory, Pmid, Stamp, ValueSet};
+use pcp_base::{Block, Body, Desc, NoMemory, Pmid, Stamp, ValueSet};
 use std::alloc::Global;
 
 /// `D.C.I`
@@ -37,9 +37,9 @@ fn first_name(meta: &MetaState, pmid: Pmid) -> &[u8]
     }
 }
 
-// `D.C.I NAME`
+/// `D.C.I NAME`
 #[tactic(auto, unfolding(crate::specs::Sets::head_text))]
-fn put_head(out: &mut Vec<u8>, meta: &MetaState, pmid: Pmid) -> Result<(), NoMemory>
+pub fn put_head(out: &mut Vec<u8>, meta: &MetaState, pmid: Pmid) -> Result<(), NoMemory>
     ensures { OnOk result (out.new.items ≡ out.old.items ++ head_text meta.now pmid) }
 {
     put_pmid(out, pmid)?;
@@ -48,68 +48,81 @@ fn put_head(out: &mut Vec<u8>, meta: &MetaState, pmid: Pmid) -> Result<(), NoMem
     Ok(())
 }
 
-// The type code of a metric's description.
-fn code_of(meta: &MetaState, pmid: Pmid) -> Option<u32>
-    ensures { result ≡ code_in (desc_of (description_of pmid meta.now)) }
+/// The description of a metric.
+pub fn desc_of(meta: &MetaState, pmid: Pmid) -> Option<Desc>
+    ensures { result ≡ desc_of (description_of pmid meta.now) }
 {
-    match meta.desc(pmid) {
+    meta.desc(pmid).copied()
+}
+
+/// The type code in a description.
+pub fn code_in(desc: &Option<Desc>) -> Option<u32>
+    ensures { result ≡ code_in desc.now }
+{
+    match desc {
         Some(desc) => Some(desc.code),
         None => None,
     }
 }
 
-// The instances that hold of a metric's domain at a moment.
-fn instances_of(
+/// The instances that hold of the domain in a description at a moment.
+pub fn instances_of<'a>(
     alloc: Global,
-    meta: &MetaState,
-    pmid: Pmid,
+    meta: &'a MetaState,
+    desc: &Option<Desc>,
     stamp: Stamp,
-) -> Result<Instances<'_>, NoMemory>
-    ensures { IfOk result (λ instances. instances ≡ instances_at meta.now (desc_of (description_of pmid meta.now)) stamp) }
+) -> Result<Instances<'a>, NoMemory>
+    ensures { IfOk result (λ instances. instances ≡ instances_at meta.now desc.now stamp) }
 {
-    let Some(desc) = meta.desc(pmid) else {
-        return Ok(Instances::none(alloc));
+    let Some(desc) = desc else {
+        return Ok(Instances::none());
     };
     match meta.domain_at(desc.indom, stamp) {
         Some(listed) => Instances::of(alloc, listed),
-        None => Ok(Instances::none(alloc)),
+        None => Ok(Instances::none()),
     }
 }
 
+/// The line of a value of 32 bits. Where its instance is looked for first is given, and where the next one's is to be is
+/// answered, as by `Instances::put_part`.
 #[tactic(auto, unfolding(crate::specs::Sets::value_line))]
-fn put_word_line(
+pub fn put_word_line(
     out: &mut Vec<u8>,
     head: &[u8],
     code: Option<u32>,
     instances: &Instances,
     value: (i32, u32),
-) -> Result<(), NoMemory>
+    tried: usize,
+) -> Result<usize, NoMemory>
     ensures { OnOk result (out.new.items ≡ out.old.items ++ value_line head.now instances.now value.0 (word_text code value.1)) }
 {
     out.extend_from_slice(head)?;
-    instances.put_part(out, value.0)?;
+    let next = instances.put_part(out, value.0, tried)?;
     out.push(b' ')?;
     put_word(out, code, value.1)?;
     out.push(b'\n')?;
-    Ok(())
+    Ok(next)
 }
 
+/// The line of a value in a block.
 #[tactic(auto, unfolding(crate::specs::Sets::value_line))]
-fn put_block_line(
+pub fn put_block_line(
     out: &mut Vec<u8>,
     head: &[u8],
     code: Option<u32>,
     instances: &Instances,
-    value: &(i32, Block),
-) -> Result<(), NoMemory>
-    ensures { OnOk result (out.new.items ≡ out.old.items ++ value_line head.now instances.now value.now.0 (block_text code value.now.1.bytes)) }
+    instance: i32,
+    bytes: &[u8],
+    tried: usize,
+) -> Result<usize, NoMemory>
+    ensures { OnOk result (out.new.items ≡ out.old.items ++ value_line head.now instances.now instance (block_text code bytes.now)) }
 {
     out.extend_from_slice(head)?;
-    instances.put_part(out, value.0)?;
+    let next = instances.put_part(out, instance, tried)?;
     out.push(b' ')?;
-    put_block(out, code, value.1.bytes())?;
+    put_block(out, code, bytes)?;
     out.push(b'\n')?;
-    Ok(())
+    Ok(next)
 }
 
 fn put_words(
@@ -121,8 +134,9 @@ fn put_words(
 ) -> Result<(), NoMemory>
     ensures { OnOk result (out.new.items ≡ out.old.items ++ word_lines head.now code instances.now values.now) }
 {
+    let mut next = 0;
     for value in values {
-        put_word_line(out, head, code, instances, *value)?;
+        next = put_word_line(out, head, code, instances, *value, next)?;
     }
     Ok(())
 }
@@ -136,8 +150,9 @@ fn put_blocks(
 ) -> Result<(), NoMemory>
     ensures { OnOk result (out.new.items ≡ out.old.items ++ block_lines head.now code instances.now values.now) }
 {
+    let mut next = 0;
     for value in values {
-        put_block_line(out, head, code, instances, value)?;
+        next = put_block_line(out, head, code, instances, value.0, value.1.bytes(), next)?;
     }
     Ok(())
 }
@@ -156,7 +171,8 @@ fn put_status(out: &mut Vec<u8>, status: i32) -> Result<(), NoMemory>
     Ok(())
 }
 
-fn put_status_line(out: &mut Vec<u8>, head: &[u8], status: i32) -> Result<(), NoMemory>
+/// The line of a status.
+pub fn put_status_line(out: &mut Vec<u8>, head: &[u8], status: i32) -> Result<(), NoMemory>
     ensures { OnOk result (out.new.items ≡ out.old.items ++ (head.now ++ status_part status)) }
 {
     out.extend_from_slice(head)?;
@@ -176,8 +192,9 @@ pub fn put_set(
 {
     let mut head = Vec::new(alloc);
     put_head(&mut head, meta, set.pmid)?;
-    let code = code_of(meta, set.pmid);
-    let instances = instances_of(alloc, meta, set.pmid, stamp)?;
+    let desc = desc_of(meta, set.pmid);
+    let code = code_in(&desc);
+    let instances = instances_of(alloc, meta, &desc, stamp)?;
     match &set.body {
         Body::InPlace(values) => put_words(out, &head, code, &instances, values.as_slice()),
         Body::Blocks(values) => put_blocks(out, &head, code, &instances, values.as_slice()),

@@ -3,7 +3,9 @@ ghost use Rattle.std.specs.Prelude.{◌≡◌, ◌++◌, Some, None, decimal, On
 ghost use Rattle.std.specs.Fmt.{signed_decimal};
 ghost use Rattle.std.specs.Int.{w32, to_be_bytes};
 ghost use Rattle.pm_print.specs.Values.{hex_bytes, raw_text, before_zero, quoted_or, number_in, signed_or, number_or, word_text, block_text};
-ghost use Rattle.text_lines.specs.Spelling.{quoted_text};
+ghost use Rattle.std.specs.List.{list_all};
+ghost use Rattle.text_lines.specs.Spelling.{escapes, quoted_text};
+ghost use Rattle.text_lines.specs.Words.{is_plain};
 
 use byteorder::{BigEndian, ByteOrder};
 use itoa::Buffer;
@@ -26,6 +28,36 @@ pub fn put_signed(out: &mut Vec<u8>, number: i64) -> Result<(), NoMemory>
 {
     let mut buffer = Buffer::new();
     out.extend_from_slice(buffer.format(number).as_bytes())?;
+    Ok(())
+}
+
+// Whether a byte stands for itself between quotes.
+fn is_plain(byte: u8) -> bool
+    ensures { result ≡ is_plain byte }
+{
+    matches!(byte, b' '..=b'~') && byte != b'"' && byte != b'\\'
+}
+
+// Whether each byte does.
+fn are_plain(text: &[u8]) -> bool
+    ensures { result ≡ list_all is_plain text.now }
+{
+    for byte in text {
+        if !is_plain(*byte) {
+            return false;
+        }
+    }
+    true
+}
+
+/// The bytes of a text as they stand between quotes, all at once where each stands for itself.
+pub fn put_spelled(out: &mut Vec<u8>, text: &[u8]) -> Result<(), NoMemory>
+    ensures { OnOk result (out.new.items ≡ out.old.items ++ escapes text.now) }
+{
+    if !are_plain(text) {
+        return put_escapes(out, text);
+    }
+    out.extend_from_slice(text)?;
     Ok(())
 }
 
@@ -54,7 +86,7 @@ fn put_quoted(out: &mut Vec<u8>, text: &[u8]) -> Result<(), NoMemory>
     ensures { OnOk result (out.new.items ≡ out.old.items ++ quoted_text text.now) }
 {
     out.push(b'"')?;
-    put_escapes(out, text)?;
+    put_spelled(out, text)?;
     out.push(b'"')?;
     Ok(())
 }

@@ -121,11 +121,10 @@ module _ {D : Type 0} (g : DiskGhosts D) where
   no_record r p before text a b c first so = turned_on g (BadNext r p) (BadRecord r) a b c first (λ tells e bad. bad_record r p (files_found (disk_side g a c)) before text (so tells) e bad)
 
   -- a step over the files as they were
-  pub stepped : (a b : D) → Looks g a b → g.tells → (r s : Loaded) → s ≡ r → (p q : Place) (before after : List ℕ) (more want : Bool) → more ≡ want
-      → HasNext (contents_of (g.held b)) s p q before after more → HasNext (contents_of (g.held a)) r p q before after want
-  stepped a b first tells r s same p q before after more want is next =
-      subst (λ (h : Holdings). HasNext (contents_of h) r p q before after want) (first.held tells)
-      (subst (λ (l : Loaded). HasNext (contents_of (g.held b)) l p q before after want) same (subst (λ (m : Bool). HasNext (contents_of (g.held b)) s p q before after m) is next))
+  pub stepped : (a b : D) → Looks g a b → g.tells → (r : Loaded) (p q : Place) (before after : List ℕ) (more want : Bool) → more ≡ want
+      → HasNext (contents_of (g.held b)) r p q before after more → HasNext (contents_of (g.held a)) r p q before after want
+  stepped a b first tells r p q before after more want is next =
+      subst (λ (h : Holdings). HasNext (contents_of h) r p q before after want) (first.held tells) (subst (λ (m : Bool). HasNext (contents_of (g.held b)) r p q before after m) is next)
 
   -- the whole text: a front was sent, and the rest waits
   pub said_whole : (a b c : D) → Looks g a b → (r : Loaded) (k : SinkSide) (failed : Bool) (before waits answer : List ℕ) → before ≡ label_line r.label → answer ≡ waits → (g.tells → IsLoaded (files_found (disk_side g a c)) r)

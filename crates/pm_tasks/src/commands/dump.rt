@@ -14,7 +14,7 @@ use archive_reader::{ArchiveReader, Place};
 use pcp_base::{Bytes, List, NoMemory};
 use pcp_model::Label;
 use pcp_outside::{Disk, Sink};
-use pm_print::put_item;
+use pm_print::ItemLines;
 use pm_words::{Refusal, send};
 use std::alloc::Global;
 
@@ -48,24 +48,27 @@ fn put_head(alloc: Global, out: &mut Vec<u8>, reader: &ArchiveReader) -> Result<
     }
 }
 
-// The item of the next record, if one follows, and the place goes behind it.
+// The item of the next record, if one follows, and the place goes behind it. Its record is read into the frame.
 fn put_next<D: Disk>(
     alloc: Global,
     disk: &mut D,
-    reader: &mut ArchiveReader,
+    reader: &ArchiveReader,
     place: &mut Place,
+    frame: &mut Vec<u8>,
+    lines: &mut ItemLines<'_>,
     out: &mut Vec<u8>,
 ) -> Result<bool, Refusal>
-    requires { D.tells → IsOver (contents_of (D.held disk.old)) reader.old }
-    ensures same { reader.new ≡ reader.old }
-    ensures put { D.tells → IfOk result (HasNext (contents_of (D.held disk.old)) reader.old place.old place.new out.old.items out.new.items) }
-    ensures turned { IfErr result (TurnedAway (BadNext reader.old place.old) (disk_side D.Disk disk.old disk.new)) }
+    requires over { D.tells → IsOver (contents_of (D.held disk.old)) reader.now }
+    requires lines { lines.old ≡ reader.now.records }
+    ensures same { lines.new ≡ lines.old }
+    ensures put { D.tells → IfOk result (HasNext (contents_of (D.held disk.old)) reader.now place.old place.new out.old.items out.new.items) }
+    ensures turned { IfErr result (TurnedAway (BadNext reader.now place.old) (disk_side D.Disk disk.old disk.new)) }
     ensures looks { Looks D.Disk disk.old disk.new }
     ensures quiet { OnOk result (D.faults disk.new ≡ D.faults disk.old) }
 {
-    match reader.item_at(alloc, disk, *place)? {
+    match reader.view_at(disk, *place, frame)? {
         Some((item, next)) => {
-            put_item(alloc, out, &item, reader.meta())?;
+            lines.put(alloc, out, &item)?;
             *place = next;
             Ok(true)
         }
@@ -89,22 +92,26 @@ pub(crate) fn turn_page<O: Sink>(out: &mut O, failed: &mut bool, page: &mut Vec<
 fn put_items<O: Sink, D: Disk>(
     alloc: Global,
     disk: &mut D,
-    reader: &mut ArchiveReader,
+    reader: &ArchiveReader,
     out: &mut O,
     failed: &mut bool,
     page: &mut Vec<u8>,
 ) -> Result<(), Refusal>
-    requires over { D.tells → IsOver (contents_of (D.held disk.old)) reader.old }
+    requires over { D.tells → IsOver (contents_of (D.held disk.old)) reader.now }
     requires fresh { failed.old ≡ false }
-    ensures put { OnOk result (HasPut D.tells (contents_of (D.held disk.old)) reader.old page.old.items (sink_side O.Sink out.old out.new) failed.new page.new.items) }
-    ensures stops { OnErr result (HasPutSome D.tells (contents_of (D.held disk.old)) reader.old page.old.items (sink_side O.Sink out.old out.new) failed.new) }
-    ensures turned { IfErr result (TurnedAway (BadRecord reader.old) (disk_side D.Disk disk.old disk.new)) }
+    ensures put { OnOk result (HasPut D.tells (contents_of (D.held disk.old)) reader.now page.old.items (sink_side O.Sink out.old out.new) failed.new page.new.items) }
+    ensures stops { OnErr result (HasPutSome D.tells (contents_of (D.held disk.old)) reader.now page.old.items (sink_side O.Sink out.old out.new) failed.new) }
+    ensures turned { IfErr result (TurnedAway (BadRecord reader.now) (disk_side D.Disk disk.old disk.new)) }
     ensures looks { Looks D.Disk disk.old disk.new }
     ensures quiet { OnOk result (D.faults disk.new ≡ D.faults disk.old) }
 {
     let mut place = reader.start();
+    let mut frame = Vec::new(alloc);
+    let mut lines = ItemLines::of(alloc, reader.meta());
     for _ in 0..u64::MAX {
-        let more = put_next(alloc, disk, reader, &mut place, page)?;
+        let more = put_next(
+            alloc, disk, reader, &mut place, &mut frame, &mut lines, page,
+        )?;
         if !more {
             return Ok(());
         }
@@ -127,10 +134,10 @@ fn put_archive<O: Sink, D: Disk>(
     ensures looks { Looks D.Disk disk.old disk.new }
     ensures quiet { OnOk result (D.faults disk.new ≡ D.faults disk.old) }
 {
-    let mut reader = ArchiveReader::load(alloc, disk)?;
+    let reader = ArchiveReader::load(alloc, disk)?;
     let mut page = Vec::new(alloc);
     put_head(alloc, &mut page, &reader)?;
-    put_items(alloc, disk, &mut reader, out, failed, &mut page)?;
+    put_items(alloc, disk, &reader, out, failed, &mut page)?;
     Ok(List::from_vec(page))
 }
 

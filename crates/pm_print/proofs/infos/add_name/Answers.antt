@@ -1,7 +1,7 @@
 -- The row takes its place.
 use Rattle.std.proofs.Common.{◌≡◌, ℕ, List, length, map, ap, ◌∙◌}
 use Rattle.std.specs.BTreeMap.{insert_entry}
-use Rattle.pm_print.specs.Infos.{Row, row_order}
+use Rattle.pm_print.specs.Infos.{row_order}
 use Rattle.pm_print.specs.Rows.{row, listed_rows}
 use Rattle.pm_print.proofs.Tables.{insert_rows, long_rows}
 use Rattle.pm_print.proofs.infos.add_name.Goals as goal

@@ -1,5 +1,5 @@
 -- So many days after the first.
-use Rattle.std.proofs.Common.{◌≡◌, ℤ, pos, ◌+ℤ◌, ◌≤ℤ◌, ap, ◌∙◌, arith, w64, to_z, true, false}
+use Rattle.std.proofs.Common.{◌≡◌, pos, ◌+ℤ◌, ◌∙◌, arith, w64, to_z, true, false}
 use Rattle.std.proofs.lemmas.Int.{to_z_pos}
 use Rattle.jiff.specs.Words.{epoch_day, IsEpochDay}
 use Rattle.jiff.proofs.SpanFacts.{signed_arith, date_add-days, can_add-days}

@@ -1,12 +1,9 @@
 -- The items that were read, one behind another, are those of the archive.
-use Rattle.std.proofs.Common.{rules, true, false, sym, subst, ◌∙◌, refl}
+use Rattle.std.proofs.Common.{rules, true, false, ◌∙◌, refl}
 use Rattle.pcp_model.specs.Disk.{contents_of}
 use Rattle.archive_loading.proofs.Looking.{looks_none, looks_on}
 use Rattle.archive_loading.specs.Loaded.{IsOver}
-use Rattle.pm_tasks.specs.Archives.{TurnedAway}
 use Rattle.pcp_outside.specs.Sides.{sink_side}
-use Rattle.pm_words.specs.Sides.{disk_side}
-use Rattle.pm_tasks.specs.commands.dump.{BadNext}
 use Rattle.pm_tasks.proofs.Dumped.{starts, goes_further, ends_here, stops_here, no_record, stepped}
 use Rattle.pm_tasks.proofs.Asking.{still_over}
 use Rattle.pm_tasks.proofs.commands.dump.put_items.Goals as goal
@@ -15,30 +12,28 @@ pub loop-init : goal.loop-init
 loop-init g c = record {
   looks = looks_none g.D.Disk g.met.D.Disk.only_now c.args.disk.now;
   quiet = refl;
-  same = refl;
+  lines = c.of-lines.ensures ∙ c.meta.ensures;
   going = starts g.O.Sink g.D.Disk.tells (contents_of (g.D.Disk.held c.args.disk.now)) c.args.reader.now c.args.page.now.items c.start-place.result c.args.out.now c.args.failed.now c.requires.fresh c.start-place.ensures.volume c.start-place.ensures.offset;
 }
 
-pub put_next-requires : goal.put_next-requires
-put_next-requires g c = λ tells.
-    subst (IsOver (contents_of (g.D.Disk.held c.loop.disk))) (sym c.loop.invariant.same)
-    (still_over g.D.Disk (λ files. IsOver files c.args.reader.now) c.args.disk.now c.loop.disk c.loop.invariant.looks c.requires.over tells)
+pub put_next-requires-clause-over : goal.put_next-requires-clause-over
+put_next-requires-clause-over g c = λ tells. still_over g.D.Disk (λ files. IsOver files c.args.reader.now) c.args.disk.now c.loop.disk c.loop.invariant.looks c.requires.over tells
 
 pub loop-preserved : goal.loop-preserved
 loop-preserved g c = record {
   looks = looks_on g.D.Disk c.args.disk.now c.loop.disk c.put_next.new.disk c.loop.invariant.looks c.put_next.ensures.looks;
   quiet = c.in_ok-more.ensures.quiet ∙ c.loop.invariant.quiet;
-  same = c.put_next.ensures.same ∙ c.loop.invariant.same;
+  lines = c.put_next.ensures.same ∙ c.loop.invariant.lines;
   going = goes_further g.O.Sink g.D.Disk.tells (contents_of (g.D.Disk.held c.args.disk.now)) c.args.reader.now c.args.page.now.items c.loop.place c.put_next.new.place c.args.out.now c.loop.out c.turn_page.new.out
       c.loop.failed c.turn_page.new.failed c.loop.page.items c.put_next.new.out.items c.turn_page.new.page.items c.loop.invariant.going
-      (λ tells. stepped g.D.Disk c.args.disk.now c.loop.disk c.loop.invariant.looks tells c.args.reader.now c.loop.reader c.loop.invariant.same c.loop.place c.put_next.new.place c.loop.page.items c.put_next.new.out.items c.in_ok-more.more true c.if-not-more.false (c.in_ok-more.ensures.put tells))
+      (λ tells. stepped g.D.Disk c.args.disk.now c.loop.disk c.loop.invariant.looks tells c.args.reader.now c.loop.place c.put_next.new.place c.loop.page.items c.put_next.new.out.items c.in_ok-more.more true c.if-not-more.false (c.in_ok-more.ensures.put tells))
       c.turn_page.ensures;
 }
 
 pub returns-then-not-more-clause-put : goal.returns-then-not-more-clause-put
 returns-then-not-more-clause-put g c =
     ends_here g.O.Sink g.D.Disk.tells (contents_of (g.D.Disk.held c.args.disk.now)) c.args.reader.now c.args.page.now.items c.loop.place c.put_next.new.place (sink_side g.O.Sink c.args.out.now c.loop.out) c.loop.failed c.loop.page.items c.put_next.new.out.items c.loop.invariant.going
-    (λ tells. stepped g.D.Disk c.args.disk.now c.loop.disk c.loop.invariant.looks tells c.args.reader.now c.loop.reader c.loop.invariant.same c.loop.place c.put_next.new.place c.loop.page.items c.put_next.new.out.items c.in_ok-more.more false c.if-not-more.true (c.in_ok-more.ensures.put tells))
+    (λ tells. stepped g.D.Disk c.args.disk.now c.loop.disk c.loop.invariant.looks tells c.args.reader.now c.loop.place c.put_next.new.place c.loop.page.items c.put_next.new.out.items c.in_ok-more.more false c.if-not-more.true (c.in_ok-more.ensures.put tells))
 
 pub returns-then-not-more-clause-looks : goal.returns-then-not-more-clause-looks
 returns-then-not-more-clause-looks g c = looks_on g.D.Disk c.args.disk.now c.loop.disk c.put_next.new.disk c.loop.invariant.looks c.put_next.ensures.looks
@@ -58,6 +53,5 @@ returns-clause-stops g c =
 pub returns-in_err-more-clause-turned : goal.returns-in_err-more-clause-turned
 returns-in_err-more-clause-turned g c =
     let so = c.loop.invariant.going in
-    let away = no_record g.D.Disk c.args.reader.now c.loop.place c.args.page.now.items _ c.args.disk.now c.loop.disk c.put_next.new.disk c.loop.invariant.looks so.so c.in_err-more.field-0.0
-    (subst (λ r. TurnedAway (BadNext r c.loop.place) (disk_side g.D.Disk c.loop.disk c.put_next.new.disk) c.in_err-more.field-0.0) c.loop.invariant.same c.in_err-more.ensures.turned) in
+    let away = no_record g.D.Disk c.args.reader.now c.loop.place c.args.page.now.items _ c.args.disk.now c.loop.disk c.put_next.new.disk c.loop.invariant.looks so.so c.in_err-more.field-0.0 c.in_err-more.ensures.turned in
     search (rules, away)

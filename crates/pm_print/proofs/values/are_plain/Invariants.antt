@@ -1,0 +1,8 @@
+-- The bytes so far stand for themselves.
+use Rattle.std.proofs.Common.{◌≡◌, drop}
+use Rattle.std.specs.List.{list_all}
+use Rattle.text_lines.specs.Words.{is_plain}
+use Rattle.pm_print.proofs.values.are_plain.Given as goal
+
+abbrev pub invariant-loop-byte : goal.invariant-loop-byte
+invariant-loop-byte l = list_all is_plain l.text ≡ list_all is_plain (drop l.byte-index l.text)
