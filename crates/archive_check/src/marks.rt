@@ -10,7 +10,7 @@ use std::alloc::Global;
 use temporal_index::{Entry, Index};
 
 /// What has been seen at an offset.
-#[derive(Clone, Copy, Debug, PartialEq, Eq)]
+#[derive(Clone, Copy)]
 pub enum Mark {
     /// No record boundary so far.
     Ahead,

@@ -10,7 +10,7 @@ use pcp_outside::FileId;
 use temporal_index::{Entry, Index};
 
 /// What stands where an entry points.
-#[derive(Clone, Copy, Debug, PartialEq, Eq)]
+#[derive(Clone, Copy)]
 pub enum Look {
     /// Its volume is above each that isn't empty.
     Above,

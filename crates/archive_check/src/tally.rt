@@ -7,7 +7,7 @@ use pcp_base::Stamp;
 
 /// Of records how many there are, the latest time in microseconds or 0, the last stamp, and the first two of which the second is before
 /// the first.
-#[derive(Clone, Copy, Debug, PartialEq, Eq)]
+#[derive(Clone, Copy)]
 pub struct Tally {
     pub count: u64,
     pub time: u64,

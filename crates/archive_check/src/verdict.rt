@@ -21,7 +21,7 @@ use std::alloc::Global;
 use temporal_index::{Entry, Index};
 
 /// Whether a readable archive is sound.
-#[derive(Clone, Copy, Debug, PartialEq, Eq)]
+#[derive(Clone, Copy)]
 pub enum Verdict {
     /// It is, with so many items.
     Sound(u64),

@@ -21,17 +21,3 @@ pub fn put_label(out: &mut Vec<u8>, label: &Label, volume: i32) -> Result<(), No
     out.extend_from_slice(&bytes)?;
     Ok(())
 }
-
-/// Puts a payload, of at most 16,777,208 bytes, between its two length words.
-#[tactic(auto, unfolding(pcp_model::specs::Frame::frame))]
-pub fn put_frame(out: &mut Vec<u8>, payload: &[u8]) -> Result<(), NoMemory>
-    requires { length payload.now ≤ 16777208 }
-    ensures bytes { OnOk result (out.new.items ≡ out.old.items ++ frame payload.now) }
-    ensures length { OnOk result (length out.new.items ≡ length out.old.items + (length payload.now + 8)) }
-{
-    let framed = (payload.len() + 8) as u32;
-    put_word(out, framed)?;
-    out.extend_from_slice(payload)?;
-    put_word(out, framed)?;
-    Ok(())
-}

@@ -12,7 +12,7 @@ use crate::writing::label_bytes;
 use pcp_model::Label;
 
 /// How far a file's first bytes are the label that has to stand there.
-#[derive(Clone, Copy, Debug, PartialEq, Eq)]
+#[derive(Clone, Copy)]
 pub enum Head {
     /// They are this label.
     Whole,

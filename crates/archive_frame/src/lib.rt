@@ -13,7 +13,7 @@ mod steps;
 mod writing;
 
 pub use fault::FrameFault;
-pub use framing::{put_frame, put_label};
+pub use framing::put_label;
 pub use heads::{Head, read_label_of};
 pub use laws::{
     each_frame_stands, label_says_one_thing, label_stops_once, no_frame_begins_another,

@@ -8,7 +8,7 @@ use crate::fault::FrameFault;
 use pcp_base::be32;
 
 /// What stands at an offset of framed bytes.
-#[derive(Clone, Copy, Debug, PartialEq, Eq)]
+#[derive(Clone, Copy)]
 pub enum Step {
     /// No record: the offset is the end of the bytes, or for a step back their beginning.
     End,

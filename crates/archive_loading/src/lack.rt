@@ -4,18 +4,28 @@ ghost use Rattle.archive_loading.specs.declared.lack.Lack.TheVariants.{Disk as F
 
 use pcp_base::NoMemory;
 use pcp_outside::Failed;
-use thiserror::Error;
+use std::error::Error;
+use std::fmt;
 
 /// What a call lacked, apart from anything that the files say.
-#[derive(Clone, Copy, Debug, PartialEq, Eq, Error)]
+#[derive(Clone, Copy, Debug)]
 pub enum Lack {
     /// The disk failed.
-    #[error("the disk failed")]
     Disk,
     /// Memory was refused.
-    #[error("out of memory")]
     Memory,
 }
+
+impl fmt::Display for Lack {
+    fn fmt<W: fmt::Write>(&self, f: &mut fmt::Formatter<W>) -> fmt::Result {
+        f.write_str(match self {
+            Lack::Disk => "the disk failed",
+            Lack::Memory => "out of memory",
+        })
+    }
+}
+
+impl Error for Lack {}
 
 impl From<NoMemory> for Lack {
     ghost from_gives = { λ _ e. e ≡ Refused };

@@ -38,7 +38,7 @@ pub enum RecordsRead {
 }
 
 /// Where Meta's whole records end and where the file does, in bytes, and the latest stamp of a domain's record.
-#[derive(Clone, Copy, Debug, PartialEq, Eq)]
+#[derive(Clone, Copy)]
 pub struct MetaEnd {
     pub end: u64,
     pub length: u64,

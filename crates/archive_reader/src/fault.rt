@@ -6,25 +6,35 @@ ghost use Rattle.archive_reader.specs.Lacks.{of_lack};
 use archive_loading::Lack;
 use pcp_base::NoMemory;
 use pcp_outside::FileId;
-use thiserror::Error;
+use std::error::Error;
+use std::fmt;
 
 /// Why an archive isn't read.
-#[derive(Clone, Copy, Debug, PartialEq, Eq, Error)]
+#[derive(Clone, Copy, Debug)]
 pub enum ReaderFault {
     /// The file stands under its name with `.xz` or `.gz` added.
-    #[error("a file is compressed")]
     Compressed { file: FileId },
     /// The first offset that fits no archive: of a label its first byte that doesn't fit, of a record the record's first byte,
     /// of an entry that leads outside its volume's records the offset that it says.
-    #[error("a file is no archive at byte {at}")]
     NotArchive { file: FileId, at: u64 },
     /// The disk failed.
-    #[error("the disk failed")]
     DiskFault,
     /// Memory was refused.
-    #[error("out of memory")]
     NoMemory,
 }
+
+impl fmt::Display for ReaderFault {
+    fn fmt<W: fmt::Write>(&self, f: &mut fmt::Formatter<W>) -> fmt::Result {
+        f.write_str(match self {
+            ReaderFault::Compressed { .. } => "a file is compressed",
+            ReaderFault::NotArchive { .. } => "a file is no archive",
+            ReaderFault::DiskFault => "the disk failed",
+            ReaderFault::NoMemory => "out of memory",
+        })
+    }
+}
+
+impl Error for ReaderFault {}
 
 impl From<NoMemory> for ReaderFault {
     ghost from_gives = { λ _ e. e ≡ Refused };

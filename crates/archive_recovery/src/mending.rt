@@ -8,14 +8,14 @@ ghost use Rattle.archive_recovery.specs.Mending.{MayBeCut, mended_index, IndexMa
 use pcp_outside::{Disk, Failed, FileId, append_synced};
 
 /// Where the whole records of a file end, and where the file does, in bytes.
-#[derive(Clone, Copy, Debug, PartialEq, Eq)]
+#[derive(Clone, Copy)]
 pub struct Tail {
     pub end: u64,
     pub length: u64,
 }
 
 /// The last volume that isn't empty: where its whole records end, `None` where its label isn't whole, and where it does.
-#[derive(Clone, Copy, Debug, PartialEq, Eq)]
+#[derive(Clone, Copy)]
 pub struct Last {
     pub number: u32,
     pub end: Option<u64>,

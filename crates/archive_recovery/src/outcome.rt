@@ -8,8 +8,9 @@ use archive_meta::MetaState;
 use pcp_base::{NoMemory, Stamp};
 use pcp_model::Label;
 use pcp_outside::{Failed, FileId};
+use std::error::Error;
+use std::fmt;
 use temporal_index::Index;
-use thiserror::Error;
 
 /// An archive as recovery leaves it.
 #[derive(Drop)]
@@ -33,22 +34,31 @@ pub struct Archive {
 }
 
 /// Why an archive isn't recovered.
-#[derive(Clone, Copy, Debug, PartialEq, Eq, Error)]
+#[derive(Clone, Copy, Debug)]
 pub enum RecoverFault {
     /// The file stands under its name with `.xz` or `.gz` added.
-    #[error("a file is compressed")]
     Compressed { file: FileId },
     /// The first offset that fits no archive: of a label its first byte that doesn't fit, of a record or of an entry its first
     /// byte; Meta's or a volume's length where it ends within its label but mustn't.
-    #[error("a file is no archive at byte {at}")]
     NotArchive { file: FileId, at: u64 },
     /// The disk failed.
-    #[error("the disk failed")]
     DiskFault,
     /// Memory was refused.
-    #[error("out of memory")]
     NoMemory,
 }
+
+impl fmt::Display for RecoverFault {
+    fn fmt<W: fmt::Write>(&self, f: &mut fmt::Formatter<W>) -> fmt::Result {
+        f.write_str(match self {
+            RecoverFault::Compressed { .. } => "a file is compressed",
+            RecoverFault::NotArchive { .. } => "a file is no archive",
+            RecoverFault::DiskFault => "the disk failed",
+            RecoverFault::NoMemory => "out of memory",
+        })
+    }
+}
+
+impl Error for RecoverFault {}
 
 impl From<NoMemory> for RecoverFault {
     ghost from_gives = { λ _ e. e ≡ Refused };

@@ -16,7 +16,7 @@ use std::alloc::Global;
 
 /// The last volume with its label, and where its whole records end; where no volume has its label, the first one, which gets
 /// it.
-#[derive(Clone, Copy, Debug, PartialEq, Eq)]
+#[derive(Clone, Copy)]
 pub struct Top {
     pub bare: bool,
     pub volume: u32,

@@ -9,7 +9,7 @@ use pcp_base::{NoMemory, Stamp};
 use temporal_index::Index;
 
 /// How many items there are so far, and the latest stamp of them, of the index's entries and of domains' records.
-#[derive(Clone, Copy, Debug, PartialEq, Eq)]
+#[derive(Clone, Copy)]
 pub struct Tally {
     pub items: u64,
     pub last: Option<Stamp>,

@@ -13,7 +13,7 @@ use crate::syncing::sync_all;
 use pcp_outside::{Disk, Failed, FileId};
 
 /// What reading found of an archive.
-#[derive(Clone, Copy, Debug, PartialEq, Eq)]
+#[derive(Clone, Copy)]
 pub struct Damage {
     /// The whole records of Meta.
     pub meta: Tail,

@@ -21,7 +21,7 @@ pub trait Subject {
 }
 
 /// How many cases there were, and how many of them differ.
-#[derive(Clone, Copy, Debug, PartialEq, Eq)]
+#[derive(Clone, Copy)]
 pub struct Count {
     pub cases: u64,
     pub differ: u64,

@@ -9,7 +9,8 @@ use crate::reading::{Known, region_of};
 use mmv_layout::IndomRow;
 use pcp_base::{Desc, InDom, NoMemory, Pmid};
 use std::alloc::Global;
-use thiserror::Error;
+use std::error::Error;
+use std::fmt;
 
 /// No region or metric has the number: PM_ERR_PMID (pmErrStr(3)).
 const NO_METRIC: i32 = -12358;
@@ -21,14 +22,23 @@ const NO_DOMAIN: i32 = -12359;
 const MISSED: i32 = -12389;
 
 /// Why nothing is told of a metric or an instance domain.
-#[derive(Clone, Copy, Debug, PartialEq, Eq, Error)]
+#[derive(Clone, Copy, Debug)]
 pub enum AskFault {
     /// -12358 where no region has the metric, -12359 where none has the domain, and -12389 where the region was missed.
-    #[error("the status is {0}")]
     Status(i32),
-    #[error("out of memory")]
     NoMemory,
 }
+
+impl fmt::Display for AskFault {
+    fn fmt<W: fmt::Write>(&self, f: &mut fmt::Formatter<W>) -> fmt::Result {
+        f.write_str(match self {
+            AskFault::Status(..) => "the answer is a status",
+            AskFault::NoMemory => "out of memory",
+        })
+    }
+}
+
+impl Error for AskFault {}
 
 impl From<NoMemory> for AskFault {
     ghost from_gives = { λ _ e. e ≡ Refused };

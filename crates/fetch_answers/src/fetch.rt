@@ -13,7 +13,8 @@ use archive_meta::Facts;
 use pcp_base::{NoMemory, PmResult, Pmid, Stamp};
 use profile_filter::Profile;
 use std::alloc::Global;
-use thiserror::Error;
+use std::error::Error;
+use std::fmt;
 
 /// How many metrics a fetch may ask for.
 pub const FETCH_LIMIT: usize = 1024;
@@ -26,14 +27,23 @@ pub struct Fetched {
 }
 
 /// Why a fetch wasn't answered.
-#[derive(Clone, Copy, Debug, PartialEq, Eq, Error)]
+#[derive(Clone, Copy, Debug)]
 pub enum FetchFault {
     /// More than 1,024 metrics were asked for.
-    #[error("{count} metrics are asked for at once")]
     TooMany { count: u64 },
-    #[error("out of memory")]
     NoMemory,
 }
+
+impl fmt::Display for FetchFault {
+    fn fmt<W: fmt::Write>(&self, f: &mut fmt::Formatter<W>) -> fmt::Result {
+        f.write_str(match self {
+            FetchFault::TooMany { .. } => "more than 1,024 metrics are asked for at once",
+            FetchFault::NoMemory => "out of memory",
+        })
+    }
+}
+
+impl Error for FetchFault {}
 
 impl From<NoMemory> for FetchFault {
     ghost from_gives = { λ _ e. e ≡ Refused };

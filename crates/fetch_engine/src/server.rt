@@ -27,7 +27,7 @@ pub struct Mounted {
 }
 
 /// Why regions can't be served. Where there are several causes, the first of these comes, for the first such region.
-#[derive(Clone, Copy, Debug, PartialEq, Eq, Error)]
+#[derive(Clone, Copy, Debug, Error)]
 pub enum ServerFault {
     /// More than 64 regions.
     #[error("{count} regions are to be served")]

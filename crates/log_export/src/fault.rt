@@ -6,21 +6,31 @@ ghost use Rattle.log_export.specs.declared.fault.ExportFault.TheVariants.{DiskFa
 use archive_reader::ReaderFault;
 use pcp_base::NoMemory;
 use pcp_outside::{Failed, FileId};
-use thiserror::Error;
+use std::error::Error;
+use std::fmt;
 
 /// Why an archive isn't exported.
-#[derive(Clone, Copy, Debug, PartialEq, Eq, Error)]
+#[derive(Clone, Copy, Debug)]
 pub enum ExportFault {
     /// The file stands where the archive is to come to stand, under its name or under that with `.xz` or `.gz` added.
-    #[error("a file stands there")]
     Stands { file: FileId },
     /// The source isn't read, or memory is refused: nothing is written then. Or the source's disk failed, where something may have been written.
-    #[error("the source isn't read")]
     Source(ReaderFault),
     /// The disk that is written failed.
-    #[error("the disk failed")]
     DiskFault,
 }
+
+impl fmt::Display for ExportFault {
+    fn fmt<W: fmt::Write>(&self, f: &mut fmt::Formatter<W>) -> fmt::Result {
+        f.write_str(match self {
+            ExportFault::Stands { .. } => "a file stands there",
+            ExportFault::Source(..) => "the source isn't read",
+            ExportFault::DiskFault => "the disk failed",
+        })
+    }
+}
+
+impl Error for ExportFault {}
 
 impl From<Failed> for ExportFault {
     ghost from_gives = { λ _ e. e ≡ DiskFault };

@@ -13,7 +13,7 @@ use pcp_outside::Disk;
 use std::alloc::Global;
 
 /// How many items were read, and the place behind the last of them.
-#[derive(Clone, Copy, Debug, PartialEq, Eq)]
+#[derive(Clone, Copy)]
 pub(crate) struct Walk {
     pub items: u64,
     pub end: Place,

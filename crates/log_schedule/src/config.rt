@@ -10,7 +10,8 @@ use crate::found::Found;
 use crate::stage::Stage;
 use pcp_base::{List, NoMemory, Text};
 use std::alloc::Global;
-use thiserror::Error;
+use std::error::Error;
+use std::fmt;
 
 /// The groups of a logger, one for each statement, in order (pmlogger(1)).
 #[derive(Drop)]
@@ -27,15 +28,24 @@ pub struct Group {
 }
 
 /// Why a configuration wasn't read.
-#[derive(Clone, Copy, Debug, PartialEq, Eq, Error)]
+#[derive(Clone, Copy, Debug)]
 pub enum ConfigFault {
     /// The first byte that no statement has there; `at` is the text's length where the text ends too early.
-    #[error("no statement has such a byte at {at}")]
     Grammar { at: u64 },
     /// Memory was refused.
-    #[error("out of memory")]
     NoMemory,
 }
+
+impl fmt::Display for ConfigFault {
+    fn fmt<W: fmt::Write>(&self, f: &mut fmt::Formatter<W>) -> fmt::Result {
+        f.write_str(match self {
+            ConfigFault::Grammar { .. } => "a byte belongs to no statement",
+            ConfigFault::NoMemory => "out of memory",
+        })
+    }
+}
+
+impl Error for ConfigFault {}
 
 impl From<NoMemory> for ConfigFault {
     ghost from_gives = { λ _ e. e ≡ Refused };

@@ -7,38 +7,48 @@ ghost use Rattle.logging_run.specs.Refusals.{refusal_of};
 use archive_recovery::RecoverFault;
 use logger_core::LogFault;
 use pcp_base::{FileId, NoMemory, Pmid, Stamp};
-use thiserror::Error;
+use std::error::Error;
+use std::fmt;
 
 /// Why a call of a run is refused. `Compressed` and `NotArchive` come from its beginning alone, and `Large`, `NotLater`, `Changed` and `Full` of
 /// a result that the archive turns away.
-#[derive(Clone, Copy, Debug, PartialEq, Eq, Error)]
+#[derive(Clone, Copy, Debug)]
 pub enum RunFault {
     /// The file stands under its name with `.xz` or `.gz` added.
-    #[error("a file is compressed")]
     Compressed { file: FileId },
     /// The first offset that fits no archive.
-    #[error("a file is no archive at byte {at}")]
     NotArchive { file: FileId, at: u64 },
     /// The framed record, or else a record of Meta that is missing for it, would be longer than 16,777,216 bytes.
-    #[error("a record would be {bytes} bytes long")]
     Large { bytes: u64 },
     /// The result isn't stamped after every item, every instance domain and every entry of the index; this is the greatest stamp.
-    #[error("the result isn't stamped after all that stands")]
     NotLater { last: Stamp },
     /// A metric is described otherwise than before, or its name isn't the first one kept.
-    #[error("a metric is described otherwise than before")]
     Changed { pmid: Pmid },
     /// Meta or the index would pass 2,147,483,647 bytes, and would have so many; or a volume would be opened whose number is 10,000 or above,
     /// and `bytes` is 10,000.
-    #[error("a file would have {bytes} bytes, or the volume that number")]
     Full { file: FileId, bytes: u64 },
     /// Memory was refused.
-    #[error("out of memory")]
     NoMemory,
     /// The disk failed: nothing more is done, and what it left is to be recovered.
-    #[error("the disk failed")]
     DiskFault,
 }
+
+impl fmt::Display for RunFault {
+    fn fmt<W: fmt::Write>(&self, f: &mut fmt::Formatter<W>) -> fmt::Result {
+        f.write_str(match self {
+            RunFault::Compressed { .. } => "a file is compressed",
+            RunFault::NotArchive { .. } => "a file is no archive",
+            RunFault::Large { .. } => "a record would be too long",
+            RunFault::NotLater { .. } => "the result isn't stamped after all that stands",
+            RunFault::Changed { .. } => "a metric is described otherwise than before",
+            RunFault::Full { .. } => "a file would be too long, or a volume's number too large",
+            RunFault::NoMemory => "out of memory",
+            RunFault::DiskFault => "the disk failed",
+        })
+    }
+}
+
+impl Error for RunFault {}
 
 impl From<NoMemory> for RunFault {
     ghost from_gives = { λ _ e. e ≡ Refused };

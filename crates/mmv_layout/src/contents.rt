@@ -18,7 +18,7 @@ pub const VALUES: u32 = 4;
 pub const STRINGS: u32 = 5;
 
 /// Where a section's entries begin, and how many there are.
-#[derive(Clone, Copy, Debug, PartialEq, Eq)]
+#[derive(Clone, Copy)]
 pub struct Section {
     pub offset: u64,
     pub count: u32,

@@ -7,7 +7,7 @@ use thiserror::Error;
 
 /// Why words or bytes are no image (mmv(5)): the first fault in this order, and of one kind the one at
 /// the lowest offset. `at` is an offset in bytes: of the field, and for `Duplicate` of the entry.
-#[derive(Clone, Copy, Debug, PartialEq, Eq, Error)]
+#[derive(Clone, Copy, Debug, Error)]
 pub enum ImageFault {
     /// Fewer than 40 bytes, or no whole number of words; `have` is the number of bytes.
     #[error("{have} bytes are no whole image")]

@@ -18,7 +18,7 @@ use std::collections::BTreeSet;
 
 /// What tells entries of a section apart: a domain's serial; an instance's number or name in its domain; a metric's
 /// item or name; a value's metric and instance.
-#[derive(Clone, Copy, Debug, PartialEq, Eq)]
+#[derive(Clone, Copy)]
 pub enum Key {
     Serial,
     Number,

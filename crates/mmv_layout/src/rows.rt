@@ -3,7 +3,7 @@ use pcp_base::{Kind, List, Semantics, Text, Units};
 
 /// A word that holds a value: the item of its metric, its instance (-1 for a metric without a domain), the
 /// metric's kind, and the index of the word in the image.
-#[derive(Clone, Copy, Debug, PartialEq, Eq)]
+#[derive(Clone, Copy)]
 pub struct Slot {
     pub item: u32,
     pub instance: i32,

@@ -7,7 +7,7 @@ use std::alloc::AllocError;
 use thiserror::Error;
 
 /// Why a row isn't taken or an image isn't made. The first reason in this order is told, and the builder is as it was.
-#[derive(Clone, Copy, Debug, PartialEq, Eq, Error)]
+#[derive(Clone, Copy, Debug, Error)]
 pub enum BuildFault {
     /// A name breaks the rule for names, is empty or too long for the version (above 63 bytes in version 1, 255 in
     /// version 2), or a text is above 255 bytes.

@@ -6,51 +6,86 @@ ghost use Rattle.mmv_writer.specs.Reading.{stopped_by, on_line};
 
 use crate::fault::BuildFault;
 use pcp_base::NoMemory;
-use thiserror::Error;
+use std::error::Error;
+use std::fmt;
 
 /// Why a line isn't taken.
-#[derive(Clone, Copy, Debug, PartialEq, Eq, Error)]
+#[derive(Clone, Copy, Debug)]
 pub enum LineFault {
     /// The bytes are no line, no line that may stand here, or a value whose content isn't of its metric's kind or in
     /// its range.
-    #[error("no line of layout text")]
     Grammar,
     /// A row that the builder refuses.
-    #[error("{0}")]
     Build(BuildFault),
     /// A line that has its form and breaks a rule of scripts. Layout text has no such rule.
-    #[error("a line that breaks a rule of scripts")]
     Condition,
 }
 
+impl fmt::Display for LineFault {
+    fn fmt<W: fmt::Write>(&self, f: &mut fmt::Formatter<W>) -> fmt::Result {
+        match self {
+            LineFault::Grammar => f.write_str("no line of layout text"),
+            LineFault::Build(fault) => fmt::Display::fmt(fault, f),
+            LineFault::Condition => f.write_str("a line that breaks a rule of scripts"),
+        }
+    }
+}
+
+impl Error for LineFault {}
+
 /// The first fault of a text.
-#[derive(Clone, Copy, Debug, PartialEq, Eq, Error)]
-#[error("line {line}: {fault}")]
+#[derive(Clone, Copy, Debug)]
 pub struct TextFault {
     /// The line's number, from 1; that of the line after the last where the whole text is at fault.
     pub line: u64,
     pub fault: LineFault,
 }
 
+impl fmt::Display for TextFault {
+    fn fmt<W: fmt::Write>(&self, f: &mut fmt::Formatter<W>) -> fmt::Result {
+        fmt::Display::fmt(&self.fault, f)
+    }
+}
+
+impl Error for TextFault {}
+
 /// Why a line wasn't added.
-#[derive(Clone, Copy, Debug, PartialEq, Eq, Error)]
+#[derive(Clone, Copy, Debug)]
 pub enum LineError {
-    #[error("{0}")]
     Fault(LineFault),
     /// Memory was refused.
-    #[error("out of memory")]
     NoMemory,
 }
 
+impl fmt::Display for LineError {
+    fn fmt<W: fmt::Write>(&self, f: &mut fmt::Formatter<W>) -> fmt::Result {
+        match self {
+            LineError::Fault(fault) => fmt::Display::fmt(fault, f),
+            LineError::NoMemory => f.write_str("out of memory"),
+        }
+    }
+}
+
+impl Error for LineError {}
+
 /// Why a text has no image.
-#[derive(Clone, Copy, Debug, PartialEq, Eq, Error)]
+#[derive(Clone, Copy, Debug)]
 pub enum ReadTextError {
-    #[error("{0}")]
     Fault(TextFault),
     /// Memory was refused.
-    #[error("out of memory")]
     NoMemory,
 }
+
+impl fmt::Display for ReadTextError {
+    fn fmt<W: fmt::Write>(&self, f: &mut fmt::Formatter<W>) -> fmt::Result {
+        match self {
+            ReadTextError::Fault(fault) => fmt::Display::fmt(fault, f),
+            ReadTextError::NoMemory => f.write_str("out of memory"),
+        }
+    }
+}
+
+impl Error for ReadTextError {}
 
 impl From<NoMemory> for LineError {
     ghost from_gives = { λ _ e. e ≡ Refused };

@@ -7,7 +7,7 @@ use std::alloc::Global;
 
 /// The description of a metric (pmLookupDesc(3)): its type code, its instance domain, the code of its
 /// semantics and its units. Codes may be any number, since an archive may have any.
-#[derive(Clone, Copy, Debug, PartialEq, Eq)]
+#[derive(Clone, Copy, PartialEq, Eq)]
 pub struct Desc {
     pub pmid: Pmid,
     pub code: u32,

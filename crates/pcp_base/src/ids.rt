@@ -79,7 +79,7 @@ impl Duplicate for Pmid {
 }
 
 /// An instance domain identifier (pmGetInDom(3)): 1 flag bit, 9 bits domain and 22 bits serial.
-#[derive(Clone, Copy, Debug, PartialEq, Eq, PartialOrd, Ord)]
+#[derive(Clone, Copy, PartialEq, Eq, PartialOrd, Ord)]
 pub struct InDom(u32);
 
 impl Model for InDom {
@@ -148,7 +148,7 @@ impl Duplicate for InDom {
 
 /// The units of a metric (pmLookupDesc(3)): four bits each of dimSpace, dimTime, dimCount, scaleSpace,
 /// scaleTime and scaleCount, then 8 bits of padding.
-#[derive(Clone, Copy, Debug, PartialEq, Eq)]
+#[derive(Clone, Copy, PartialEq, Eq)]
 pub struct Units(u32);
 
 impl Model for Units {

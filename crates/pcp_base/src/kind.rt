@@ -8,7 +8,7 @@ use crate::memory::NoMemory;
 use std::alloc::Global;
 
 /// The type of a metric's values (pmLookupDesc(3); `Elapsed` is of mmv(5) alone).
-#[derive(Clone, Copy, Debug, PartialEq, Eq)]
+#[derive(Clone, Copy)]
 pub enum Kind {
     I32,
     U32,
@@ -62,7 +62,7 @@ impl Duplicate for Kind {
 }
 
 /// How a metric's values are meant (pmLookupDesc(3)).
-#[derive(Clone, Copy, Debug, PartialEq, Eq)]
+#[derive(Clone, Copy)]
 pub enum Semantics {
     Counter,
     Instant,

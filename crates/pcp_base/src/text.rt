@@ -8,8 +8,9 @@ use crate::duplicate::Duplicate;
 use crate::list::Bytes;
 use crate::memory::NoMemory;
 use std::alloc::{AllocError, Global};
+use std::error::Error;
+use std::fmt;
 use std::marker::Model;
-use thiserror::Error;
 
 /// Bytes without a zero byte, as names and texts are in archives and images.
 #[derive(Drop)]
@@ -18,19 +19,28 @@ pub struct Text {
 }
 
 /// The first zero byte stands at the offset `at`.
-#[derive(Clone, Copy, Debug, PartialEq, Eq)]
+#[derive(Clone, Copy, Debug)]
 pub struct Zero {
     pub at: u64,
 }
 
 /// Why bytes made no text.
-#[derive(Clone, Copy, Debug, PartialEq, Eq, Error)]
+#[derive(Clone, Copy, Debug)]
 pub enum TextError {
-    #[error("a text has a zero byte")]
     Zero(Zero),
-    #[error("out of memory")]
     NoMemory,
 }
+
+impl fmt::Display for TextError {
+    fn fmt<W: fmt::Write>(&self, f: &mut fmt::Formatter<W>) -> fmt::Result {
+        f.write_str(match self {
+            TextError::Zero(..) => "a text has a zero byte",
+            TextError::NoMemory => "out of memory",
+        })
+    }
+}
+
+impl Error for TextError {}
 
 impl From<AllocError> for TextError {
     ghost from_gives = { λ _ e. e ≡ Refused };

@@ -15,7 +15,7 @@ pub enum MetaRecord {
 
 /// An entry of the temporal index (LOGARCHIVE(5)): no record stamped after its time stands before its
 /// offsets. The volume and the offsets, in bytes, are below 2^31.
-#[derive(Clone, Copy, Debug, PartialEq, Eq)]
+#[derive(Clone, Copy)]
 pub struct Entry {
     pub stamp: Stamp,
     pub volume: u32,

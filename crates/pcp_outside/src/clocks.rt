@@ -105,7 +105,7 @@ pub trait Turn {
 }
 
 /// Turns without a wait.
-#[derive(Clone, Copy, Debug, PartialEq, Eq)]
+#[derive(Clone, Copy)]
 pub struct Free;
 
 impl Turn for Free {

@@ -8,7 +8,7 @@ use crate::failed::Failed;
 use crate::streams::{Sink, Source};
 
 /// How a session over a connection ended.
-#[derive(Clone, Copy, Debug, PartialEq, Eq)]
+#[derive(Clone, Copy)]
 pub enum SessionEnd {
     /// The input ended between two PDUs.
     Closed,

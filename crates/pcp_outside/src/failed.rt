@@ -1,8 +1,16 @@
 //! The one refusal of the outside.
 
-use thiserror::Error;
+use std::error::Error;
+use std::fmt;
 
 /// A call of the outside failed; the object's count of faults rose.
-#[derive(Clone, Copy, Debug, PartialEq, Eq, Error)]
-#[error("a call of the outside failed")]
+#[derive(Clone, Copy, Debug)]
 pub struct Failed;
+
+impl fmt::Display for Failed {
+    fn fmt<W: fmt::Write>(&self, f: &mut fmt::Formatter<W>) -> fmt::Result {
+        f.write_str("a call of the outside failed")
+    }
+}
+
+impl Error for Failed {}

@@ -29,7 +29,7 @@ pub enum DiskChange {
 }
 
 /// A call that was asked of a disk in memory, whether or not it was done.
-#[derive(Clone, Copy, Debug, PartialEq, Eq)]
+#[derive(Clone, Copy)]
 pub enum Asked {
     Append(FileId),
     Sync(FileId),

@@ -7,7 +7,7 @@ ghost use Rattle.pcp_outside.specs.Plans.{same_call, is_fault, planned, count_of
 use pcp_base::List;
 
 /// A kind of call of a disk.
-#[derive(Clone, Copy, Debug, PartialEq, Eq)]
+#[derive(Clone, Copy, Debug)]
 pub enum Call {
     Len,
     Volumes,
@@ -21,7 +21,7 @@ pub enum Call {
 /// A call that is planned to fail: the `nth` of its kind, counted from 1. An append that fails so has put the first
 /// `kept` of its bytes there, at most all. A sync or a cut that fails so has happened where `kept` isn't 0. A call of
 /// another kind has done nothing.
-#[derive(Clone, Copy, Debug, PartialEq, Eq)]
+#[derive(Clone, Copy)]
 pub struct Fault {
     pub call: Call,
     pub nth: u64,

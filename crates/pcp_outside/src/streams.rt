@@ -6,7 +6,8 @@ ghost use Rattle.pcp_outside.specs.Streams.{Takes, Puts, PutsAll, ReadsTo};
 use crate::failed::Failed;
 use pcp_base::{Bytes, List, NoMemory};
 use std::alloc::{AllocError, Global};
-use thiserror::Error;
+use std::error::Error;
+use std::fmt;
 
 /// Where bytes come from.
 pub trait Source {
@@ -62,16 +63,25 @@ pub fn write_all<O: Sink>(out: &mut O, bytes: &[u8]) -> Result<(), Failed>
 }
 
 /// Why a source isn't read to its end.
-#[derive(Clone, Copy, Debug, PartialEq, Eq, Error)]
+#[derive(Clone, Copy, Debug)]
 pub enum ReadFault {
-    #[error("out of memory")]
     NoMemory,
-    #[error("the source failed")]
     Failed,
     /// It holds more bytes than the limit.
-    #[error("the source holds more than the limit")]
     TooMuch,
 }
+
+impl fmt::Display for ReadFault {
+    fn fmt<W: fmt::Write>(&self, f: &mut fmt::Formatter<W>) -> fmt::Result {
+        f.write_str(match self {
+            ReadFault::NoMemory => "out of memory",
+            ReadFault::Failed => "the source failed",
+            ReadFault::TooMuch => "the source holds more than the limit",
+        })
+    }
+}
+
+impl Error for ReadFault {}
 
 impl From<AllocError> for ReadFault {
     ghost use Rattle.pcp_outside.specs.declared.streams.ReadFault.TheVariants.{NoMemory as OutOfMemory};

@@ -8,7 +8,7 @@ use std::io::{self, ErrorKind, Read};
 use std::time::Duration;
 
 /// How long a client is waited for, or a server, before its connection is closed.
-#[derive(Clone, Copy, Debug, PartialEq, Eq)]
+#[derive(Clone, Copy)]
 pub struct Patience {
     /// The next byte of a PDU that it has begun, and that it takes some of what is sent to it.
     pub begun: Duration,

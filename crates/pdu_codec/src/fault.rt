@@ -7,7 +7,7 @@ use std::alloc::AllocError;
 use thiserror::Error;
 
 /// Why bytes are no PDU; the first that holds is told.
-#[derive(Clone, Copy, Debug, PartialEq, Eq, Error)]
+#[derive(Clone, Copy, Debug, Error)]
 pub enum PduFault {
     /// The length word isn't the number of bytes, or below 12; 0 for fewer than 4 bytes.
     #[error("the length word is {found}")]

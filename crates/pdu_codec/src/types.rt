@@ -3,7 +3,7 @@ ghost use Rattle.std.specs.Prelude.{◌≡◌};
 ghost use Rattle.pdu_codec.specs.Types.{type_of_code, code_of_type};
 
 /// The type of a PDU (PCP's PDU headers).
-#[derive(Clone, Copy, Debug, PartialEq, Eq)]
+#[derive(Clone, Copy)]
 pub enum PduType {
     Error,
     Result,

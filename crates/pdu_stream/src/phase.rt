@@ -1,7 +1,7 @@
 //! How a stream goes on.
 
 /// Whether more PDUs may come, or why none will.
-#[derive(Clone, Copy, Debug, PartialEq, Eq)]
+#[derive(Clone, Copy)]
 pub enum Phase {
     /// More bytes may come.
     Open,

@@ -9,7 +9,7 @@ use jiff::civil::{Date, date};
 use pcp_base::{NoMemory, Stamp};
 
 /// A civil date.
-#[derive(Clone, Copy, Debug, PartialEq, Eq)]
+#[derive(Clone, Copy)]
 pub struct Day {
     pub year: u32,
     pub month: u32,

@@ -128,7 +128,7 @@ pub enum Refusal {
 }
 
 /// Why a reply of a peer isn't taken.
-#[derive(Clone, Copy, Debug, PartialEq, Eq)]
+#[derive(Clone, Copy)]
 pub enum PeerFault {
     /// The replies end so many bytes into it.
     Ended { bytes: u64 },

@@ -63,7 +63,7 @@ pub enum Command {
 }
 
 /// The call of the library that does a command.
-#[derive(Clone, Copy, Debug, PartialEq, Eq)]
+#[derive(Clone, Copy, Debug)]
 pub enum Call {
     /// `offline`: each command that no other call does.
     Offline,
@@ -104,7 +104,7 @@ pub struct ValueWords {
 }
 
 /// How many samples are to be taken, and the volume limit in bytes.
-#[derive(Clone, Copy, Debug, PartialEq, Eq)]
+#[derive(Clone, Copy)]
 pub struct RecordWords {
     pub samples: u32,
     pub volume: u64,
@@ -120,7 +120,7 @@ pub struct PullWords {
 }
 
 /// How many workers are to read volumes beside each other, from one to 64, and the moments between which values count.
-#[derive(Clone, Copy, Debug, PartialEq, Eq)]
+#[derive(Clone, Copy)]
 pub struct SummaryWords {
     pub workers: u32,
     pub from: Stamp,

@@ -7,8 +7,9 @@ ghost use Rattle.profile_filter.specs.Size.{size_of};
 
 use pcp_base::{InDom, List};
 use std::alloc::Global;
+use std::error::Error;
+use std::fmt;
 use std::marker::Model;
-use thiserror::Error;
 
 /// How many parts and listed instances a profile may hold together.
 const LIMIT: u64 = 1024;
@@ -23,11 +24,18 @@ pub struct DomainPart {
 }
 
 /// Parts and listed instances are `count` together (2^64 - 1 where they are more), above 1,024.
-#[derive(Clone, Copy, Debug, PartialEq, Eq, Error)]
-#[error("{count} parts and listed instances")]
+#[derive(Clone, Copy, Debug)]
 pub struct TooMany {
     pub count: u64,
 }
+
+impl fmt::Display for TooMany {
+    fn fmt<W: fmt::Write>(&self, f: &mut fmt::Formatter<W>) -> fmt::Result {
+        f.write_str("too many parts and listed instances")
+    }
+}
+
+impl Error for TooMany {}
 
 /// Which instances a fetch of this context keeps (pmFetch(3)).
 #[derive(Drop)]

@@ -3,7 +3,7 @@
 use crate::event::Event;
 
 /// One atomic step of a pass. A word is named by its index in the image, and stays below the region's capacity.
-#[derive(Clone, Copy, Debug, PartialEq, Eq)]
+#[derive(Clone, Copy)]
 pub enum Act {
     /// A load of this image word.
     Load(u32),
@@ -28,7 +28,7 @@ pub enum Act {
 }
 
 /// One entry of a region's journal: the number of a pass, and its act.
-#[derive(Clone, Copy, Debug, PartialEq, Eq)]
+#[derive(Clone, Copy)]
 pub struct Entry {
     pub by: u32,
     pub act: Act,

@@ -4,7 +4,7 @@ ghost use Rattle.std.specs.Prelude.{◌≡◌, slice_index, slice_set};
 ghost use Rattle.region_core.specs.State.{plus};
 
 /// An act that stores an image word. `Swap` and `Add` carry the number of the pass, the word and the value.
-#[derive(Clone, Copy, Debug, PartialEq, Eq)]
+#[derive(Clone, Copy)]
 pub enum Event {
     /// Word 1 is this generation.
     Begin(u64),

@@ -29,7 +29,7 @@ impl Model for State {
 }
 
 /// Why a replay stopped.
-#[derive(Clone, Copy, Debug, PartialEq, Eq)]
+#[derive(Clone, Copy)]
 pub enum Stop {
     /// There was no memory left.
     NoMemory,

@@ -4,7 +4,7 @@ use std::alloc::AllocError;
 use thiserror::Error;
 
 /// Why a region was not made.
-#[derive(Clone, Copy, Debug, PartialEq, Eq, Error)]
+#[derive(Clone, Copy, Debug, Error)]
 pub enum OpenFault {
     /// The image has `need` words, more than the region's `capacity`.
     #[error("the image has {need} words, and the region room for {capacity}")]
@@ -26,25 +26,25 @@ impl From<AllocError> for OpenFault {
 }
 
 /// There was no memory left. What the call took by value comes back with it where it says so.
-#[derive(Clone, Copy, Debug, PartialEq, Eq, Error)]
+#[derive(Clone, Copy, Debug, Error)]
 #[error("out of memory")]
 pub struct NoMemory;
 
 /// An attach came while a pass was changing the layout: `gate` is the gate's word before it, 2^63 or more.
-#[derive(Clone, Copy, Debug, PartialEq, Eq, Error)]
+#[derive(Clone, Copy, Debug, Error)]
 #[error("a pass is changing the layout, the gate is {gate}")]
 pub struct Changing {
     pub gate: u64,
 }
 
 /// A reading that is of one layout: both numbers were this generation.
-#[derive(Clone, Copy, Debug, PartialEq, Eq)]
+#[derive(Clone, Copy)]
 pub struct Stable {
     pub generation: u64,
 }
 
 /// A reading that was crossed by a change: generation 2 was `first`, and generation 1 after it `last`, which differs.
-#[derive(Clone, Copy, Debug, PartialEq, Eq, Error)]
+#[derive(Clone, Copy, Debug, Error)]
 #[error("a change from generation {first} to {last} crossed the reading")]
 pub struct Again {
     pub first: u64,
@@ -52,7 +52,7 @@ pub struct Again {
 }
 
 /// Why no change began.
-#[derive(Clone, Copy, Debug, PartialEq, Eq, Error)]
+#[derive(Clone, Copy, Debug, Error)]
 pub enum ChangeFault {
     /// The image has `need` words, more than the region's `capacity`.
     #[error("the image has {need} words, and the region room for {capacity}")]
@@ -66,7 +66,7 @@ pub enum ChangeFault {
 }
 
 /// Why a read of all words gave none.
-#[derive(Clone, Copy, Debug, PartialEq, Eq, Error)]
+#[derive(Clone, Copy, Debug, Error)]
 pub enum ReadFault {
     /// A change crossed the reading: generation 2 was `first`, and generation 1 after it `last`.
     #[error("a change from generation {first} to {last} crossed the reading")]
@@ -88,7 +88,7 @@ impl From<AllocError> for ReadFault {
 }
 
 /// Why a read of chosen words gave none.
-#[derive(Clone, Copy, Debug, PartialEq, Eq, Error)]
+#[derive(Clone, Copy, Debug, Error)]
 pub enum ValueFault {
     /// Generation 2 was `found`, and not the known one.
     #[error("the generation is {found}")]

@@ -12,7 +12,7 @@ use region_rule::{ReadFault, ValueFault};
 use std::alloc::Global;
 
 /// A layout that is known, by its generation. While the region has that generation, it has that layout.
-#[derive(Clone, Copy, Debug, PartialEq, Eq)]
+#[derive(Clone, Copy)]
 pub struct Known {
     pub generation: u64,
 }

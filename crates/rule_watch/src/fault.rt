@@ -3,41 +3,67 @@ ghost use Rattle.std.specs.Prelude.{◌≡◌};
 ghost use Rattle.rule_watch.specs.Faults.{on_line};
 
 use pcp_base::NoMemory;
+use std::error::Error;
+use std::fmt;
 use text_lines::TakeFault;
-use thiserror::Error;
 
 /// Why a line is refused: it isn't a rule, its label stands before it, or 64 rules do; the first of these that is so.
-#[derive(Clone, Copy, Debug, PartialEq, Eq, Error)]
+#[derive(Clone, Copy, Debug)]
 pub enum RuleLineFault {
-    #[error("no rule")]
     Grammar,
-    #[error("a label that stands before")]
     Condition,
-    #[error("more than 64 rules")]
     Many,
 }
 
+impl fmt::Display for RuleLineFault {
+    fn fmt<W: fmt::Write>(&self, f: &mut fmt::Formatter<W>) -> fmt::Result {
+        f.write_str(match self {
+            RuleLineFault::Grammar => "no rule",
+            RuleLineFault::Condition => "a label that stands before",
+            RuleLineFault::Many => "more than 64 rules",
+        })
+    }
+}
+
+impl Error for RuleLineFault {}
+
 /// The first fault of a text of rules.
-#[derive(Clone, Copy, Debug, PartialEq, Eq, Error)]
-#[error("line {line}: {fault}")]
+#[derive(Clone, Copy, Debug)]
 pub struct RuleFault {
     /// The line's number, from 1.
     pub line: u64,
     pub fault: RuleLineFault,
 }
 
+impl fmt::Display for RuleFault {
+    fn fmt<W: fmt::Write>(&self, f: &mut fmt::Formatter<W>) -> fmt::Result {
+        fmt::Display::fmt(&self.fault, f)
+    }
+}
+
+impl Error for RuleFault {}
+
 /// Why rules weren't read.
-#[derive(Clone, Copy, Debug, PartialEq, Eq, Error)]
+#[derive(Clone, Copy, Debug)]
 pub enum ReadRulesError {
-    #[error("{0}")]
     Fault(RuleFault),
     /// Memory was refused.
-    #[error("out of memory")]
     NoMemory,
 }
 
+impl fmt::Display for ReadRulesError {
+    fn fmt<W: fmt::Write>(&self, f: &mut fmt::Formatter<W>) -> fmt::Result {
+        match self {
+            ReadRulesError::Fault(fault) => fmt::Display::fmt(fault, f),
+            ReadRulesError::NoMemory => f.write_str("out of memory"),
+        }
+    }
+}
+
+impl Error for ReadRulesError {}
+
 /// Why a line wasn't taken.
-#[derive(Clone, Copy, Debug, PartialEq, Eq)]
+#[derive(Clone, Copy)]
 pub enum LineStop {
     Fault(RuleLineFault),
     NoMemory,

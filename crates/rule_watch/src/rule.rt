@@ -3,14 +3,14 @@ use crate::aggregate::Aggregate;
 use pcp_base::{List, Text};
 
 /// For which instances of a sample a condition has to hold; for all of them it holds only where there is one.
-#[derive(Clone, Copy, Debug, PartialEq, Eq)]
+#[derive(Clone, Copy)]
 pub enum Quantifier {
     Any,
     All,
 }
 
 /// How what is told of a window compares with a condition's number.
-#[derive(Clone, Copy, Debug, PartialEq, Eq)]
+#[derive(Clone, Copy)]
 pub enum Comparison {
     Below,
     AtMost,
@@ -21,7 +21,7 @@ pub enum Comparison {
 }
 
 /// How the conditions of a rule are joined; one alone is joined by `And`.
-#[derive(Clone, Copy, Debug, PartialEq, Eq)]
+#[derive(Clone, Copy)]
 pub enum Joint {
     And,
     Or,

@@ -6,40 +6,66 @@ ghost use Rattle.run_script.specs.Faults.{no_line, broken_rule, stopped_by, on_l
 use mmv_writer::{LineError, LineFault};
 use pcp_base::NoMemory;
 use std::alloc::AllocError;
-use thiserror::Error;
+use std::error::Error;
+use std::fmt;
 
 /// Why a line of a script isn't taken.
-#[derive(Clone, Copy, Debug, PartialEq, Eq, Error)]
+#[derive(Clone, Copy, Debug)]
 pub enum ScriptLineFault {
     /// The bytes are no line that may stand here, a row that an image's rules refuse, or a line that breaks a rule of scripts.
-    #[error("{0}")]
     Line(LineFault),
     /// The line has a region's form, and 64 regions stand before it.
-    #[error("more than 64 regions")]
     Regions,
 }
 
+impl fmt::Display for ScriptLineFault {
+    fn fmt<W: fmt::Write>(&self, f: &mut fmt::Formatter<W>) -> fmt::Result {
+        match self {
+            ScriptLineFault::Line(fault) => fmt::Display::fmt(fault, f),
+            ScriptLineFault::Regions => f.write_str("more than 64 regions"),
+        }
+    }
+}
+
+impl Error for ScriptLineFault {}
+
 /// The first fault of a script.
-#[derive(Clone, Copy, Debug, PartialEq, Eq, Error)]
-#[error("line {line}: {fault}")]
+#[derive(Clone, Copy, Debug)]
 pub struct ScriptFault {
     /// The line's number, from 1; that of the line after the last where the script ends too early.
     pub line: u64,
     pub fault: ScriptLineFault,
 }
 
+impl fmt::Display for ScriptFault {
+    fn fmt<W: fmt::Write>(&self, f: &mut fmt::Formatter<W>) -> fmt::Result {
+        fmt::Display::fmt(&self.fault, f)
+    }
+}
+
+impl Error for ScriptFault {}
+
 /// Why a script wasn't read.
-#[derive(Clone, Copy, Debug, PartialEq, Eq, Error)]
+#[derive(Clone, Copy, Debug)]
 pub enum ReadScriptError {
-    #[error("{0}")]
     Fault(ScriptFault),
     /// Memory was refused.
-    #[error("out of memory")]
     NoMemory,
 }
 
+impl fmt::Display for ReadScriptError {
+    fn fmt<W: fmt::Write>(&self, f: &mut fmt::Formatter<W>) -> fmt::Result {
+        match self {
+            ReadScriptError::Fault(fault) => fmt::Display::fmt(fault, f),
+            ReadScriptError::NoMemory => f.write_str("out of memory"),
+        }
+    }
+}
+
+impl Error for ReadScriptError {}
+
 /// Why a line wasn't taken.
-#[derive(Clone, Copy, Debug, PartialEq, Eq)]
+#[derive(Clone, Copy)]
 pub enum LineStop {
     Fault(ScriptLineFault),
     NoMemory,

@@ -27,7 +27,7 @@ pub struct Place {
 }
 
 /// The slot of a value: of the metric with this item, and of this instance where the metric has a domain.
-#[derive(Clone, Copy, Debug, PartialEq, Eq)]
+#[derive(Clone, Copy)]
 pub struct Slot {
     pub item: u32,
     pub instance: Option<i32>,

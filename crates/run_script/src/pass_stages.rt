@@ -7,7 +7,7 @@ ghost use Rattle.run_script.specs.RecordingSteps.{IsFirst, IsNear, AreNear, Tell
 use crate::script::Line;
 
 /// What a pass is doing.
-#[derive(Clone, Copy, Debug, PartialEq, Eq)]
+#[derive(Clone, Copy)]
 pub enum Doing {
     Idle,
     Attached,

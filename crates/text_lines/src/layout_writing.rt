@@ -3,7 +3,7 @@ ghost use Rattle.std.specs.Prelude.{◌≡◌, ◌++◌, Some, None, OnOk};
 ghost use Rattle.text_lines.specs.LayoutSpelling.{codes_parts, links_parts, full_line};
 ghost use Rattle.text_lines.specs.declared.layout_line.Line.TheVariants.{Mmv as mmv_of, String as string_of, Indom as indom_of, Instance as instance_of, Metric as metric_of, Value as value_of};
 
-use crate::layout_line::{Line, Written};
+use crate::layout_line::Written;
 use crate::layout_parts::{put_content, put_kind, put_semantics};
 use crate::writing::{
     put_help, put_hex_part, put_int, put_number, put_optional_int, put_optional_number, put_text,
@@ -130,44 +130,5 @@ pub fn put_value(
     put_optional_int(out, instance)?;
     put_content(out, content)?;
     out.push(b'\n')?;
-    Ok(())
-}
-
-/// Adds a line and its line feed in its one spelling: decimal numbers, hexadecimal digits of lower case, and escapes
-/// only where they are needed.
-pub fn write_line(out: &mut Vec<u8>, line: &Line) -> Result<(), NoMemory>
-    ensures { OnOk result (out.new.items ≡ out.old.items ++ full_line line.now) }
-{
-    match line {
-        Line::Mmv {
-            version,
-            generation,
-            flags,
-            pid,
-            cluster,
-        } => put_head(
-            out,
-            Head {
-                version: *version,
-                generation: *generation,
-                flags: *flags,
-                pid: *pid,
-                cluster: *cluster,
-            },
-        )?,
-        Line::String(text) => put_string(out, text)?,
-        Line::Indom {
-            serial,
-            short,
-            long,
-        } => put_indom(out, *serial, short, long)?,
-        Line::Instance { serial, id, name } => put_instance(out, *serial, *id, name)?,
-        Line::Metric(row) => put_metric(out, row)?,
-        Line::Value {
-            item,
-            instance,
-            content,
-        } => put_value(out, *item, *instance, content)?,
-    }
     Ok(())
 }

@@ -29,7 +29,6 @@ pub use laws::{
 pub use layout_line::{Line, Written};
 pub use layout_parts::{put_kind, put_semantics};
 pub use layout_reading::read_line;
-pub use layout_writing::write_line;
 pub use lines::split_line;
 pub use names::take_name;
 pub use numbers::{hex_number, int32, number32, number64, read_number, whole_number};

@@ -8,17 +8,27 @@ use crate::numbers;
 use crate::quoted::{starts_quoted, text_byte};
 use pcp_base::{Bytes, NoMemory, Text};
 use std::alloc::{AllocError, Global};
+use std::error::Error;
+use std::fmt;
 use std::marker::Model;
-use thiserror::Error;
 
 /// Why nothing was taken: the bytes are no line, or memory was refused.
-#[derive(Clone, Copy, Debug, PartialEq, Eq, Error)]
+#[derive(Clone, Copy, Debug)]
 pub enum TakeFault {
-    #[error("no line")]
     NoLine,
-    #[error("out of memory")]
     NoMemory,
 }
+
+impl fmt::Display for TakeFault {
+    fn fmt<W: fmt::Write>(&self, f: &mut fmt::Formatter<W>) -> fmt::Result {
+        f.write_str(match self {
+            TakeFault::NoLine => "no line",
+            TakeFault::NoMemory => "out of memory",
+        })
+    }
+}
+
+impl Error for TakeFault {}
 
 impl From<NoMemory> for TakeFault {
     ghost use Rattle.text_lines.specs.declared.rest.TakeFault.TheVariants.{NoMemory as Refused};
