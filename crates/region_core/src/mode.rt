@@ -1,7 +1,7 @@
 //! What a pass may be doing.
 
 /// What a pass is doing; each pass is in one mode at a time.
-#[derive(Clone, Copy)]
+#[derive(Clone, Copy, PartialEq, Eq)]
 pub enum Mode {
     /// Neither attached nor changing: it may read.
     Idle,

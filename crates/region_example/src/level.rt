@@ -4,7 +4,7 @@ ghost use Rattle.std.specs.Prelude.{◌≡◌};
 ghost use Rattle.region_example.specs.Levels.{instance_of, level_of};
 
 /// How grave a line of a log is. Each level is an instance of the region's domain.
-#[derive(Clone, Copy)]
+#[derive(Clone, Copy, PartialEq, Eq)]
 pub enum Level {
     Info,
     Warning,

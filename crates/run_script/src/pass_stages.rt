@@ -7,7 +7,7 @@ ghost use Rattle.run_script.specs.RecordingSteps.{IsFirst, IsNear, AreNear, Tell
 use crate::script::Line;
 
 /// What a pass is doing.
-#[derive(Clone, Copy)]
+#[derive(Clone, Copy, PartialEq, Eq)]
 pub enum Doing {
     Idle,
     Attached,
