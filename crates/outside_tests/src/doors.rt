@@ -1,5 +1,5 @@
 //! What a session has goes to another thread.
-use pcp_outside::{ListClock, MemDisk, MemDoor, MemSink, MemSource};
+use pcp_memory::{ListClock, MemDisk, MemDoor, MemSink, MemSource};
 use pcp_system::{ClientSource, Connection, WriterSink};
 
 fn needs_send<T: Send>() {}

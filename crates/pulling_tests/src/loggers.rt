@@ -1,6 +1,7 @@
 //! A logger and its peer, beside each other over loopback: a server, or who ends in the middle of a reply.
 use pcp_base::{FileId, List};
-use pcp_outside::{Free, MemDisk, MemSink, SureSource, Turn};
+use pcp_memory::{MemDisk, MemSink, SureSource};
+use pcp_outside::{Free, Turn};
 use pcp_system::{ClientSource, Connection, TcpDoor, WriterSink, connect};
 use pm_pulling::pull;
 use pm_serving::run_serve;

@@ -3,7 +3,8 @@ ghost use Rattle.fetch_engine.specs.Servers.{IsSeated};
 
 use fetch_engine::{Seat, Server};
 use pcp_base::{Body, FileId, List, Pmid, Stamp, ValueSet};
-use pcp_outside::{Disk, LOGGER, ListClock, MemDisk, MemSink, MemSource, Turn};
+use pcp_memory::{ListClock, MemDisk, MemSink, MemSource};
+use pcp_outside::{Disk, LOGGER, Turn};
 use pm_recording::run_record;
 use profile_filter::Profile;
 use std::alloc::{AllocError, Global};

@@ -1,6 +1,7 @@
 //! Clients that come in over loopback.
 use pcp_base::List;
-use pcp_outside::{MemSink, SureSource, Turn};
+use pcp_memory::{MemSink, SureSource};
+use pcp_outside::Turn;
 use pcp_system::TcpDoor;
 use pm_serving::run_serve;
 use std::alloc::{Alloc, AllocError, Global};

@@ -1,6 +1,7 @@
 //! Doors in memory, and calls of the source, of the sink and of the doors that fail.
 use pcp_base::List;
-use pcp_outside::{Free, MemDoor, MemSink, MemSource};
+use pcp_memory::{MemDoor, MemSink, MemSource};
+use pcp_outside::Free;
 use pm_serving::run_serve;
 use std::alloc::{Alloc, AllocError, Global};
 use std::sync::Wait;

@@ -1,7 +1,8 @@
 //! Two connections of a door in memory, one after another on one seat.
 use case_sessions::{Opening, open};
 use pcp_base::{List, Stamp};
-use pcp_outside::{MemDoor, SessionEnd};
+use pcp_memory::MemDoor;
+use pcp_outside::SessionEnd;
 use pmcd_server::{ServeFault, serve};
 use std::alloc::{AllocError, Global};
 use std::test::Fail;
