@@ -83,7 +83,7 @@ took_nothing files (v ∷ vs) at before after le = record { count = 0; part = in
 
 -- ---- what is kept of items
 
-between-append : (from to : Moment) (xs ys : List Item) → between from to (xs ++ ys) ≡ between from to xs ++ between from to ys
+pub between-append : (from to : Moment) (xs ys : List Item) → between from to (xs ++ ys) ≡ between from to xs ++ between from to ys
 between-append from to [] ys = refl
 between-append from to (x ∷ xs) ys = go (is_before from x || is_after to x) (between-append from to xs ys)
   where

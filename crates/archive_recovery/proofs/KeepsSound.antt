@@ -101,15 +101,16 @@ module _ (files left : Files) (c : ArchiveContents) (is : IsArchive files c) (r 
           earlier = each_or_first (λ (v : ℕ × List Item). v.0 < e.volume → NoItemAfter e.stamp v.1) (labelled_volumes files c.volumes) (λ low. tt) (each_left files (λ (v : ℕ × List Item). v.0 < e.volume → NoItemAfter e.stamp v.1) c.volumes was.earlier);
         }
 
-    entry_on : IsSoundEntry left (recovered_contents files c) e
-    entry_on = record {
+    -- each sound entry stays so
+    pub mended_entry : IsSoundEntry left (recovered_contents files c) e
+    mended_entry = record {
       not_above = (label.0, omega (arith, long_left label.0 label.1 c.volumes (is.others label.0) all_mended), label.2);
       points = points_on;
     }
 
   each_on : (es : List Entry) → AreLabelled files es → AllByRecursion (IsSoundEntry files c) es → AllByRecursion (IsSoundEntry left (recovered_contents files c)) es
   each_on [] labels all = tt
-  each_on (e ∷ es) labels all = (entry_on e labels.0 all.0, each_on es labels.1 all.1)
+  each_on (e ∷ es) labels all = (mended_entry e labels.0 all.0, each_on es labels.1 all.1)
 
   pub keeps_sound : IsSound files (ArchiveReading.archive c) → AreLabelled files c.entries → IsSound left (ArchiveReading.archive (recovered_contents files c))
   keeps_sound sound labels = (

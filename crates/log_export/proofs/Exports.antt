@@ -25,10 +25,10 @@ use Rattle.pcp_model.proofs.OneRecovery.{one_recovery}
 use Rattle.pcp_model.proofs.Recovered.{recovered_is, recovered_items, spelled_of}
 use Rattle.pcp_model.proofs.Sound.{labelled_long}
 use Rattle.archive_reader.proofs.Loadable.{too_high}
+use Rattle.archive_recovery.proofs.KeepsSound.{mended_entry}
 use Rattle.log_export.specs.Exported.{ExportsAs, IsExported, exported_contents, exported_entries, exported_reading, first_number, is_one_of, kept_entries, same_entry, start_entry, with_first}
 use Rattle.log_export.specs.Laws.{BeginsAtStart, IndexIsGood, KeepsSound}
 use Rattle.log_export.specs.Standing.{IsLowest}
-use Rattle.log_export.proofs.Mended.{mended_entry}
 
 -- ---- the first entry
 

@@ -2,7 +2,6 @@ pub mod Again
 pub mod Exports
 pub mod Halting
 pub mod Laid
-pub mod Mended
 pub mod Occupied
 pub mod Outcome
 pub mod Pieces

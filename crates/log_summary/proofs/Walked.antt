@@ -14,6 +14,7 @@ use Rattle.archive_frame.specs.Steps.{Stands, IsForwardFault}
 use Rattle.archive_frame.proofs.Records.{Ends, stood}
 use Rattle.archive_loading.specs.Standing.{ItemStands, NoItemStands}
 use Rattle.archive_reader.specs.Searches.{between, is_before, is_after}
+use Rattle.archive_reader.proofs.Spanned.{between-append}
 use Rattle.log_summary.specs.Tables.{Rows, counted}
 use Rattle.log_summary.specs.Values.{Value, item_values, values_of}
 use Rattle.log_summary.specs.Pieces.{IsWalked}
@@ -57,15 +58,6 @@ item_fits bytes at next x s = let e : Ends bytes s.payload at next = stood bytes
 one_stands : (bytes : List ℕ) (at : ℕ) (items : List Item) (end next : ℕ) (x : Item) → StandUpTo bytes at items end → ItemStands bytes end next x → StandUpTo bytes at (items ++ x ∷ []) next
 one_stands bytes at [] end next x is s = (next, subst (λ n. ItemStands bytes n next x) is s, refl)
 one_stands bytes at (y ∷ items) end next x (mid, first, rest) s = (mid, first, one_stands bytes mid items end next x rest s)
-
-pub between-append : (from to : Moment) (xs ys : List Item) → between from to (xs ++ ys) ≡ between from to xs ++ between from to ys
-between-append from to [] ys = refl
-between-append from to (x ∷ xs) ys = go (is_before from x || is_after to x) (between-append from to xs ys)
-  where
-    go : (b : Bool) → between from to (xs ++ ys) ≡ between from to xs ++ between from to ys
-        → (if b then between from to (xs ++ ys) else x ∷ between from to (xs ++ ys)) ≡ (if b then between from to xs else x ∷ between from to xs) ++ between from to ys
-    go true more = more
-    go false more = ap (λ l. x ∷ l) more
 
 pub values-append : (records : List MetaRecord) (xs ys : List Item) → values_of records (xs ++ ys) ≡ values_of records xs ++ values_of records ys
 values-append records [] ys = refl

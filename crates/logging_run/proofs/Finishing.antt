@@ -17,22 +17,22 @@ use Rattle.archive_recovery.proofs.Settled.{settled_begins}
 use Rattle.logger_core.proofs.Calls.{no_call, run_then}
 use Rattle.logging_session.specs.ComingBack.{ComesBack, ComesBackTo, MayBeAfter, start_of}
 use Rattle.logging_session.specs.Course.{HasKept, HasPassed, HasPassedHeld, WentBy}
+use Rattle.logging_session.specs.Crashes.{IsAllAfter}
 use Rattle.logging_session.specs.Events.{Event, LeadFrom, acknowledged_by, closing, items_by}
 use Rattle.logging_session.specs.Keeping.{AreWhole, Carried, held_in, lost_in}
 use Rattle.logging_session.specs.Written.{Stand}
 use Rattle.logging_session.proofs.ComeBack.{fewer, same_left}
 use Rattle.logging_session.proofs.Course.{survives_now, survives_since}
+use Rattle.logging_session.proofs.Losing.{closing_sure}
 use Rattle.logging_session.proofs.Recovering.{later_comes, recovered_so, recovering_comes}
 use Rattle.logging_session.proofs.Sessions.{kept_files}
 use Rattle.logging_run.specs.declared.fault.RunFault.{RunFault}
 use Rattle.logging_run.specs.declared.fault.RunFault.TheVariants as faults
 use Rattle.logging_run.specs.Closing.{Close, Ran}
-use Rattle.logging_run.specs.Crashes.{IsAllAfter}
 use Rattle.logging_run.specs.Handing.{Handed, events_of}
 use Rattle.logging_run.specs.Named.{run_label}
 use Rattle.logging_run.specs.Recovering.{HasRecovered, IsUnrecovered, fault_of}
 use Rattle.logging_run.proofs.Events.{closing_items}
-use Rattle.logging_run.proofs.Losing.{closing_sure}
 
 pub recovery_rose : (fault : RecoverFault) → fault_of fault ≡ faults.DiskFault → fault ≡ recovery.DiskFault
 recovery_rose (recovery.Compressed file) is = cc

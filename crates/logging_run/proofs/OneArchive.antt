@@ -88,7 +88,7 @@ module _ (limit : ℕ) (r : Report) (old : Written) (good : IsGood old) where
       let contents = one_contents a.files a.contents b.contents x.is (subst (λ (fs : Files). IsArchive fs b.contents) (sym files) y.is) in
       same_written a b files contents (one_volume a.files a.contents a.volume b.volume x.last (last_as a b files contents y.last))
 
-  one_refused : (a b : LogFault) → a ≢ faults.NoMemory → b ≢ faults.NoMemory → Refuses limit r old a → Refuses limit r old b → a ≡ b
+  pub one_refused : (a b : LogFault) → a ≢ faults.NoMemory → b ≢ faults.NoMemory → Refuses limit r old a → Refuses limit r old b → a ≡ b
   one_refused a b ra rb x y =
       one_refusal old.contents.records x.ends limit r.result r.facts a b ra rb x.refused
       (subst (λ (e : Ends). IsRefused old.contents.records e limit r.result r.facts b) (sym (one_count old good x.ends y.ends x.ends_are y.ends_are)) y.refused)

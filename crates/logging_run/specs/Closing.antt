@@ -5,11 +5,11 @@ use Rattle.pcp_outside.specs.Devices.{LeavesOnly}
 use Rattle.pcp_outside.specs.declared.disk.Disk.{Ghosts as DiskGhosts}
 use Rattle.logging_session.specs.ComingBack.{MayBeAfter}
 use Rattle.logging_session.specs.Course.{HasPassed, LeadsTo, WentBy}
+use Rattle.logging_session.specs.Crashes.{IsAllAfter}
 use Rattle.logging_session.specs.Events.{Event, closing, logged_all}
 use Rattle.logging_session.specs.Keeping.{AreWhole}
 use Rattle.logging_session.specs.Written.{Report}
 use Rattle.logging_run.specs.declared.fault.RunFault.{RunFault}
-use Rattle.logging_run.specs.Crashes.{IsAllAfter}
 use Rattle.logging_run.specs.Handing.{Handed, events_of, items_of_run}
 use Rattle.logging_run.specs.Named.{run_label}
 use Rattle.logging_run.specs.Recovering.{HasRecovered, IsUnrecovered}

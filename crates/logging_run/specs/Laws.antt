@@ -5,9 +5,9 @@ use Rattle.pcp_model.specs.Disk.{Files}
 use Rattle.logger_core.specs.declared.fault.LogFault.{LogFault}
 use Rattle.logger_core.specs.declared.fault.LogFault.TheVariants as logs
 use Rattle.logging_session.specs.Course.{LeadsTo}
+use Rattle.logging_session.specs.Crashes.{LosesAtMostOne}
 use Rattle.logging_session.specs.Events.{Event, acknowledged_by, closing}
 use Rattle.logging_session.specs.Written.{Report}
-use Rattle.logging_run.specs.Crashes.{LosesAtMostOne}
 use Rattle.logging_run.specs.Handing.{AreSure, Handed, events_of, items_of_run, reports_of, with_handed}
 use Rattle.logging_run.specs.Named.{run_label}
 use Rattle.logging_run.specs.Recovering.{IsRecovered}

@@ -1,6 +1,5 @@
 pub mod Named
 pub mod Handing
-pub mod Crashes
 pub mod Recovering
 pub mod Closing
 pub mod Running

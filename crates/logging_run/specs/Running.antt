@@ -6,13 +6,13 @@ use Rattle.pcp_outside.specs.declared.disk.Disk.{Ghosts as DiskGhosts}
 use Rattle.logger_core.specs.declared.fault.LogFault.{LogFault}
 use Rattle.logger_core.specs.declared.fault.LogFault.TheVariants as logs
 use Rattle.logging_session.specs.Course.{HasKept}
+use Rattle.logging_session.specs.Crashes.{IsAllAfter}
 use Rattle.logging_session.specs.Events.{Event, LeadFrom, opening}
 use Rattle.logging_session.specs.Keeping.{Carried, IsFailed, IsOpen, IsWorking, lost_in}
 use Rattle.logging_session.specs.Written.{Refuses, Report, Stand, Written}
 use Rattle.logging_run.specs.declared.fault.RunFault.{RunFault}
 use Rattle.logging_run.specs.declared.fault.RunFault.TheVariants as faults
 use Rattle.logging_run.specs.Closing.{Close, Ran}
-use Rattle.logging_run.specs.Crashes.{IsAllAfter}
 use Rattle.logging_run.specs.Handing.{Handed, events_of, items_of_run, reports_of}
 use Rattle.logging_run.specs.Named.{run_label}
 use Rattle.logging_run.specs.Recovering.{HasRecovered, IsRecovered}

@@ -28,7 +28,7 @@ use Rattle.logging_session.proofs.Sessions.{kept_comes, kept_files, kept_holds_n
 
 -- ---- the first ones of some events
 
-none_front : (front rest : List Event) → [] ≡ front ++ rest → front ≡ []
+pub none_front : (front rest : List Event) → [] ≡ front ++ rest → front ≡ []
 none_front [] rest is = refl
 none_front (x ∷ front) rest is = cc
 
@@ -39,11 +39,11 @@ tail_same : (x y : Event) (xs ys : List Event) → x ∷ xs ≡ y ∷ ys → xs 
 tail_same x y xs ys is = cc
 
 -- they are the first ones of these events
-abbrev IsFront : List Event → List Event → Type 0
+abbrev pub IsFront : List Event → List Event → Type 0
 IsFront front events = (rest : List Event) × (events ≡ front ++ rest)
 
 -- where one more comes behind, the first ones are those of before, or all
-front_more : (events : List Event) (e : Event) (front rest : List Event) → events ++ e ∷ [] ≡ front ++ rest → IsFront front events ⊎ (front ≡ events ++ e ∷ [])
+pub front_more : (events : List Event) (e : Event) (front rest : List Event) → events ++ e ∷ [] ≡ front ++ rest → IsFront front events ⊎ (front ≡ events ++ e ∷ [])
 front_more [] e [] rest is = inl ([], refl)
 front_more [] e (x ∷ front) rest is =
     inr (ap (λ (y : Event). y ∷ front) (sym (head_same e x [] (front ++ rest) is)) ∙ ap (λ (ys : List Event). e ∷ ys) (none_front front rest (tail_same e x [] (front ++ rest) is)))

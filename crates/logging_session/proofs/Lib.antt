@@ -7,6 +7,7 @@ pub mod Going
 pub mod HeldEvents
 pub mod Logged
 pub mod Logging
+pub mod Losing
 pub mod Meanings
 pub mod OneReason
 pub mod OneChain

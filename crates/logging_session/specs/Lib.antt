@@ -1,6 +1,7 @@
 pub mod Written
 pub mod Events
 pub mod ComingBack
+pub mod Crashes
 pub mod Course
 pub mod Keeping
 pub mod Answers

@@ -15,9 +15,9 @@ use Rattle.archive_reader.specs.declared.fault.ReaderFault.TheVariants as reads
 use Rattle.logger_core.specs.declared.fault.LogFault.{LogFault}
 use Rattle.logger_core.specs.declared.fault.LogFault.TheVariants as logs
 use Rattle.logging_session.specs.ComingBack.{MayBeAfter}
+use Rattle.logging_session.specs.Crashes.{IsAllAfter}
 use Rattle.logging_run.specs.declared.fault.RunFault.{RunFault}
 use Rattle.logging_run.specs.declared.fault.RunFault.TheVariants as runs
-use Rattle.logging_run.specs.Crashes.{IsAllAfter}
 use Rattle.logging_run.specs.Handing.{items_of_run}
 use Rattle.logging_run.specs.Laws.{ItemsAreReports}
 use Rattle.log_extract.specs.declared.fault.ExtractFault.{ExtractFault}

@@ -15,9 +15,9 @@ use Rattle.archive_reader.specs.declared.fault.ReaderFault.TheVariants as reads
 use Rattle.archive_recovery.specs.RecoverFaults.{IsRefused as IsNoArchive}
 use Rattle.logger_core.specs.declared.fault.LogFault.{LogFault}
 use Rattle.logger_core.specs.declared.fault.LogFault.TheVariants as logs
+use Rattle.logging_session.specs.Crashes.{IsAllAfter}
 use Rattle.logging_run.specs.declared.fault.RunFault.TheVariants as runs
 use Rattle.logging_run.specs.Closing.{HasFailed, HasFlushed}
-use Rattle.logging_run.specs.Crashes.{IsAllAfter}
 use Rattle.logging_run.specs.Handing.{items_of_run}
 use Rattle.logging_run.specs.Recovering.{IsUnrecovered}
 use Rattle.log_extract.specs.declared.fault.ExtractFault.{ExtractFault}

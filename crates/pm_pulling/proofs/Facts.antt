@@ -4,10 +4,10 @@ use Rattle.pcp_base.specs.Time.{Moment}
 use Rattle.pcp_base.specs.declared.file.FileId.{FileId}
 use Rattle.pcp_outside.specs.Causes.{Rose}
 use Rattle.pcp_outside.specs.Sides.{SinkSide}
+use Rattle.logging_session.specs.Crashes.{LosesAtMostOne}
 use Rattle.logging_run.specs.declared.fault.RunFault.{RunFault}
 use Rattle.logging_run.specs.declared.fault.RunFault.TheVariants as runs
 use Rattle.logging_run.specs.Closing.{Close, HasFailed}
-use Rattle.logging_run.specs.Crashes.{LosesAtMostOne}
 use Rattle.logging_run.specs.Handing.{events_of}
 use Rattle.logging_run.specs.Laws.{ItemsAreReports, SureRunsLoseAtMostOne, TakenIsNotTurnedAway, TurnedAwayForOne}
 use Rattle.logging_run.specs.Recovering.{HasRecovered, IsUnrecovered}

@@ -5,9 +5,9 @@ use Rattle.pcp_model.specs.Disk.{CrashImage, Files, Holdings, IsSettled, content
 use Rattle.pcp_outside.specs.Devices.{LeavesOnly}
 use Rattle.pcp_outside.proofs.Crash.{started, weaker}
 use Rattle.logging_session.specs.ComingBack.{MayBeAfter}
+use Rattle.logging_session.specs.Crashes.{IsAllAfter}
 use Rattle.logging_run.specs.declared.fault.RunFault.{RunFault}
 use Rattle.logging_run.specs.declared.fault.RunFault.TheVariants as runs
-use Rattle.logging_run.specs.Crashes.{IsAllAfter}
 use Rattle.logging_run.specs.Handing.{items_of_run}
 use Rattle.logging_run.specs.Laws.{ItemsAreReports, SureRunsLoseAtMostOne}
 use Rattle.pcp_outside.specs.Sides.{SinkSide}

@@ -6,12 +6,12 @@ use Rattle.pcp_outside.specs.Causes.{Rose}
 use Rattle.pcp_outside.specs.Sides.{SourceSide, SinkSide}
 use Rattle.logger_core.specs.declared.fault.LogFault.{LogFault}
 use Rattle.logger_core.specs.declared.fault.LogFault.TheVariants as logs
+use Rattle.logging_session.specs.Crashes.{LosesAtMostOne}
 use Rattle.logging_session.specs.Events.{closing}
 use Rattle.logging_session.specs.Written.{Report}
 use Rattle.logging_run.specs.declared.fault.RunFault.{RunFault}
 use Rattle.logging_run.specs.declared.fault.RunFault.TheVariants as runs
 use Rattle.logging_run.specs.Closing.{CameTo, Close, HasFlushed}
-use Rattle.logging_run.specs.Crashes.{LosesAtMostOne}
 use Rattle.logging_run.specs.Handing.{AreSure, Handed, events_of, items_of_run, reports_of}
 use Rattle.logging_run.specs.Laws.{ItemsAreReports, SureRunsLoseAtMostOne}
 use Rattle.logging_run.specs.Recovering.{IsUnrecovered}

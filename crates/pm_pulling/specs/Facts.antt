@@ -11,10 +11,10 @@ use Rattle.pcp_outside.specs.Sides.{SinkSide}
 use Rattle.archive_recovery.specs.RecoverFaults.{IsRefused as IsNoArchive}
 use Rattle.logger_core.specs.declared.fault.LogFault.{LogFault}
 use Rattle.logger_core.specs.declared.fault.LogFault.TheVariants as logs
+use Rattle.logging_session.specs.Crashes.{IsAllAfter, LosesAtMostOne}
 use Rattle.logging_session.specs.Events.{closing}
 use Rattle.logging_run.specs.declared.fault.RunFault.TheVariants as runs
 use Rattle.logging_run.specs.Closing.{HasFailed, HasFlushed}
-use Rattle.logging_run.specs.Crashes.{IsAllAfter, LosesAtMostOne}
 use Rattle.logging_run.specs.Handing.{events_of, items_of_run}
 use Rattle.pmcd_client.specs.declared.faults.ReplyFault.{ReplyFault}
 use Rattle.pmcd_client.specs.declared.faults.TalkFault.TheVariants as talks

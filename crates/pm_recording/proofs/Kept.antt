@@ -5,8 +5,8 @@ use Rattle.pcp_model.specs.Disk.{CrashImage, Files, Holdings, IsSettled, content
 use Rattle.pcp_outside.specs.Devices.{LeavesOnly}
 use Rattle.pcp_outside.proofs.Crash.{started, weaker}
 use Rattle.logging_session.specs.ComingBack.{MayBeAfter}
+use Rattle.logging_session.specs.Crashes.{IsAllAfter, LosesAtMostOne}
 use Rattle.logging_session.specs.Events.{items_by}
-use Rattle.run_archive.specs.Crashes.{IsAllAfter, LosesAtMostOne}
 use Rattle.run_archive.specs.Outcomes.{IsUnrecovered, ended}
 use Rattle.run_archive.specs.Shown.{items_of_results}
 use Rattle.script_runs.specs.declared.ending.Ending.{Ending}

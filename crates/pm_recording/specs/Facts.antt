@@ -9,12 +9,12 @@ use Rattle.pcp_outside.specs.Sides.{SourceSide, SinkSide}
 use Rattle.archive_recovery.specs.RecoverFaults.{IsRefused}
 use Rattle.run_script.specs.declared.fault.ScriptFault.{ScriptFault}
 use Rattle.run_script.specs.declared.script.Script.{Script}
+use Rattle.logging_session.specs.Crashes.{IsAllAfter, LosesAtMostOne}
 use Rattle.record_run.specs.Beside.{WritersEnded}
 use Rattle.record_run.specs.Stopping.{LoggingDid}
 use Rattle.script_runs.specs.declared.ending.Ending.{Ending}
 use Rattle.script_runs.specs.declared.ending.Ending.TheVariants as ends
 use Rattle.script_runs.specs.declared.ending.LimitKind.{LimitKind}
-use Rattle.run_archive.specs.Crashes.{IsAllAfter, LosesAtMostOne}
 use Rattle.run_archive.specs.Outcomes.{WentOn, ended, left_of}
 use Rattle.run_archive.specs.Sampling.{HasEnded}
 use Rattle.run_archive.specs.Shown.{items_of_results}

@@ -15,12 +15,12 @@ use Rattle.pm_words.specs.declared.refusal.Refusal.TheVariants.{Condition, Limit
 use Rattle.pm_words.specs.Refusals.{IsNumbered, IsOfRun, ending_refusal, status_of}
 use Rattle.pm_words.specs.Sides.{DiskSide, Found}
 use Rattle.pm_words.proofs.Coherent.{IsCoherent}
+use Rattle.pm_words.proofs.Unreadable.{refused_is_none}
 use Rattle.pm_runs.specs.Runners.{OfScript, Runner}
 use Rattle.pm_runs.specs.Scripts.{HasWritten, IsRunRefused, IsRunUnderWay, IsTurnedAway, Leads, runs_script}
 use Rattle.pm_runs.specs.commands.recover as recovery
 use Rattle.pm_runs.specs.commands.recover.{IsMendedSide, IsUnderWay, recover}
 use Rattle.pm_runs.proofs.OneRun.{one_ending}
-use Rattle.pm_runs.proofs.Refused.{refused_is_none}
 use Rattle.pm_runs.proofs.Sound.{mended_is_sound}
 
 pub not_both : (w : Option FileId) (file : FileId) → w ≡ None → w ≡ Some file → ⊥

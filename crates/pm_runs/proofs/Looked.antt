@@ -12,16 +12,17 @@ use Rattle.pcp_outside.proofs.Crash.{joined, weaker}
 use Rattle.archive_loading.specs.Looks.{Looks}
 use Rattle.logging_session.specs.ComingBack.{ComesBack, ComesBackTo, MayBeAfter, start_of}
 use Rattle.logging_session.specs.Course.{HasPassed, LeadsTo, WentBy}
-use Rattle.logging_session.specs.Events.{Event, acknowledged_by, closing, flushed_behind, items_by, sure_after}
+use Rattle.logging_session.specs.Crashes.{IsAllAfter}
+use Rattle.logging_session.specs.Events.{Event, acknowledged_by, closing, flushed_behind, items_by}
 use Rattle.logging_session.specs.Keeping.{AreWhole}
 use Rattle.logging_session.proofs.ComeBack.{fewer}
+use Rattle.logging_session.proofs.Losing.{sure_bounded}
 use Rattle.run_script.specs.declared.script.Script.{Script}
 use Rattle.script_runs.specs.declared.ending.Ending.{Ending}
 use Rattle.script_runs.specs.declared.ending.Ending.TheVariants as ends
 use Rattle.script_runs.specs.Archives.{run_label}
 use Rattle.script_runs.specs.Runs.{RunDoes}
 use Rattle.run_archive.specs.declared.replayed.Replayed.{Replayed}
-use Rattle.run_archive.specs.Crashes.{IsAllAfter}
 use Rattle.run_archive.specs.Endings.{MayEnd}
 use Rattle.run_archive.specs.Outcomes.{IsFlushed, IsUnrecovered, RunsOnFiles, WentOn, ended, left_of}
 use Rattle.run_passes.specs.declared.opening.Opened.{Opened}
@@ -41,17 +42,9 @@ flushed_items : (items : List Item) (events : List Event) → items_by (flushed_
 flushed_items [] events = refl
 flushed_items (x ∷ items) events = items_append events (Event.flushed ∷ []) ∙ append-nil (items_by events)
 
--- no more than were logged
-sure_few : (events : List Event) (all sure : ℕ) → sure ≤ all → sure_after all sure events ≤ all + length (items_by events)
-sure_few [] all sure low = omega (arith, low)
-sure_few (Event.opened stamp ∷ events) all sure low = sure_few events all sure low
-sure_few (Event.logged r ∷ events) all sure low = let few = sure_few events (all + 1) sure (omega (arith, low)) in omega (arith, few)
-sure_few (Event.flushed ∷ events) all sure low = sure_few events all all (omega arith)
-sure_few (Event.synced ∷ events) all sure low = sure_few events all all (omega arith)
-
 front_few : (events front rest : List Event) → events ≡ front ++ rest → acknowledged_by front ≤ length (items_by events)
 front_few events front rest is =
-    let few : acknowledged_by front ≤ 0 + length (items_by front) = sure_few front 0 0 (omega arith) in
+    let few : acknowledged_by front ≤ 0 + length (items_by front) = sure_bounded front 0 0 (omega arith) in
     let long : length (items_by events) ≡ length (items_by front) + length (items_by rest) =
     ap (λ (l : List Event). length (items_by l)) is ∙ ap length (items_append front rest) ∙ length-append (items_by front) (items_by rest) in
     omega (arith, few, long)

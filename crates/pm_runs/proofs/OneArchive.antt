@@ -1,180 +1,46 @@
--- The archive to which events lead is one: it is opened, takes a result or turns it away, and is flushed in one way.
-use Rattle.std.proofs.Common.{◌≡◌, ◌≢◌, inl, inr, ℕ, List, [], ◌∷◌, ◌++◌, Bool, Some, refl, sym, ap, ◌∙◌, subst}
-use Rattle.std.proofs.Math.Path.{fun_ext}
+-- A result is turned away for one reason, and no run goes on with it: the archive to which events lead is one.
+use Rattle.std.proofs.Common.{◌≡◌, ◌≢◌, ℕ, List, [], ◌∷◌, ◌++◌, Some, refl, sym, ap, ◌∙◌, subst}
 use Rattle.std.proofs.lemmas.Option.{none-some, same_Some}
-use Rattle.pcp_model.specs.declared.records.MetaRecord.{MetaRecord}
-use Rattle.pcp_model.specs.Archive.{ArchiveContents, IsArchive}
 use Rattle.pcp_model.specs.Disk.{Files}
-use Rattle.pcp_model.specs.Frame.{frame}
 use Rattle.pcp_model.specs.LabelFields.{LabelFields}
-use Rattle.pcp_model.specs.Laws.{EndsWhole}
-use Rattle.pcp_model.specs.Payload.{payload}
-use Rattle.archive_meta.specs.Missing.{framed_records}
 use Rattle.fetch_answers.specs.declared.fetch.Fetched.{Fetched}
 use Rattle.logger_core.specs.declared.ends.Ends.{Ends}
 use Rattle.logger_core.specs.declared.fault.LogFault.{LogFault}
 use Rattle.logger_core.specs.declared.fault.LogFault.TheVariants as faults
 use Rattle.logger_core.specs.Logging.{IsRefused}
-use Rattle.logger_core.specs.LogSteps.{LogStep, base_files, base_number, with_run}
-use Rattle.logger_core.specs.Steps.{FlushStep, greatest_in, has_item}
 use Rattle.logging_session.specs.Course.{LeadsTo}
-use Rattle.logging_session.specs.Events.{Event, Lead, LeadFrom, Steps, opening}
-use Rattle.logging_session.specs.Written.{EndsAre, Flushes, Logs, Opens, OpensFound, Refuses, Report, Stand, Written, files_of, starting}
-use Rattle.logging_session.proofs.OneReason.{last_number, no_archive, not_refused, one_contents, one_ends, one_missing, one_refusal}
+use Rattle.logging_session.specs.Events.{Event, Lead, LeadFrom, opening}
+use Rattle.logging_session.specs.Written.{Logs, Refuses, Report, Stand, Written}
+use Rattle.logging_session.proofs.OneReason.{not_refused}
+use Rattle.logging_run.proofs.OneArchive.{IsGood, lead_good, one_count, one_lead, one_refused, same_opened}
 use Rattle.script_runs.specs.declared.ending.Ending.{Ending}
 use Rattle.script_runs.specs.Archives.{IsTurnedAway, ending_of, report_of, run_label}
 
--- ---- one archive is opened
-
-abbrev written : Files → ArchiveContents → ℕ → Written
-written files contents volume = record { files = files; contents = contents; volume = volume }
-
-same_written : (a b : Written) → a.files ≡ b.files → a.contents ≡ b.contents → a.volume ≡ b.volume → a ≡ b
-same_written a b files contents volume =
-    ap (λ (f : Files). written f a.contents a.volume) files ∙ ap (λ (c : ArchiveContents). written b.files c a.volume) contents ∙ ap (λ (n : ℕ). written b.files b.contents n) volume
-
-one_volume : (files : Files) (c : ArchiveContents) (m n : ℕ) → EndsWhole files c m → EndsWhole files c n → m ≡ n
-one_volume files c m n w v = last_number w.before v.before m n w.items v.items (sym w.are ∙ v.are)
-
--- of the same files and contents
-last_as : (a b : Written) → a.files ≡ b.files → a.contents ≡ b.contents → EndsWhole b.files b.contents b.volume → EndsWhole a.files a.contents b.volume
-last_as a b files contents v = subst (λ (f : Files). EndsWhole f a.contents b.volume) (sym files) (subst (λ (c : ArchiveContents). EndsWhole b.files c b.volume) (sym contents) v)
-
-one_found : (l : LabelFields) (left : Files) (a b : Written) → OpensFound l left a.files a.contents → OpensFound l left b.files b.contents → (a.files ≡ b.files) × (a.contents ≡ b.contents)
-one_found l left a b (inl x) (inl y) = (x.1 ∙ sym y.1, x.2 ∙ sym y.2)
-one_found l left a b (inl x) (inr y) = absurd (no_archive left b.contents x.0 y.1)
-one_found l left a b (inr x) (inl y) = absurd (no_archive left a.contents y.0 x.1)
-one_found l left a b (inr x) (inr y) = (x.0 ∙ sym y.0, one_contents left a.contents b.contents x.1 y.1)
-
-one_open : (l : LabelFields) (left : Files) (a b : Written) → Opens l left a → Opens l left b → a ≡ b
-one_open l left a b (x, w) (y, v) =
-    let same = one_found l left a b x y in
-    same_written a b same.0 same.1 (one_volume a.files a.contents a.volume b.volume w (last_as a b same.0 same.1 v))
-
--- this is its last volume
-abbrev IsGood : Written → Type 0
-IsGood w = EndsWhole w.files w.contents w.volume
-
-abbrev Good : Stand → Type 0
-Good (Stand.found left) = Unit {0}
-Good (Stand.opened w) = IsGood w
-
-opens_good : (l : LabelFields) (left : Files) (w : Written) → Opens l left w → IsGood w
-opens_good l left w (x, v) = v
-
--- what a logger keeps of it in numbers is one
-one_count : (w : Written) → IsGood w → (a b : Ends) → EndsAre w a → EndsAre w b → a ≡ b
-one_count w good a b x y =
-    one_ends w.files w.contents a b x.are y.are (subst (λ (n : ℕ). EndsWhole w.files w.contents n) (sym x.volume) good) (subst (λ (n : ℕ). EndsWhole w.files w.contents n) (sym y.volume) good)
-
--- ---- a result is logged in one way, or refused for one reason
-
+-- what is logged isn't refused
 module _ (limit : ℕ) (r : Report) (old : Written) (good : IsGood old) where
-  abbrev run_of : List MetaRecord → Bool → Files
-  run_of missing crossing =
-      with_run (base_number crossing old.volume) (framed_records missing) (frame (payload r.result)) (base_files crossing old.files old.contents old.volume (greatest_in old.contents) (has_item old.contents))
-
-  abbrev Step : Files → Type 0
-  Step new = LogStep old.files old.contents old.volume (greatest_in old.contents) (has_item old.contents) limit r.result r.facts new
-
-  one_step : (a b : Files) → Step a → Step b → a ≡ b
-  one_step a b x y =
-      let same : run_of x.missing x.crossing ≡ run_of y.missing y.crossing =
-      ap (λ (rs : List MetaRecord). run_of rs x.crossing) (one_missing old.contents.records r.facts r.result x.missing y.missing x.needed y.needed)
-      ∙ ap (λ (b : Bool). run_of y.missing b) (x.crosses_is ∙ sym y.crosses_is) in
-      fun_ext (λ file. x.is file ∙ ap (λ (fs : Files). fs file) same ∙ sym (y.is file))
-
-  one_log : (a b : Written) → Logs limit r old a → Logs limit r old b → a ≡ b
-  one_log a b x y =
-      let files = one_step a.files b.files x.step y.step in
-      let contents = one_contents a.files a.contents b.contents x.is (subst (λ (fs : Files). IsArchive fs b.contents) (sym files) y.is) in
-      same_written a b files contents (one_volume a.files a.contents a.volume b.volume x.last (last_as a b files contents y.last))
-
-  one_refused : (a b : LogFault) → a ≢ faults.NoMemory → b ≢ faults.NoMemory → Refuses limit r old a → Refuses limit r old b → a ≡ b
-  one_refused a b ra rb x y =
-      one_refusal old.contents.records x.ends limit r.result r.facts a b ra rb x.refused
-      (subst (λ (e : Ends). IsRefused old.contents.records e limit r.result r.facts b) (sym (one_count old good x.ends y.ends x.ends_are y.ends_are)) y.refused)
-
   not_both : (a : Written) (b : LogFault) → b ≢ faults.NoMemory → Logs limit r old a → Refuses limit r old b → ⊥
   not_both a b rb x y =
       not_refused old.contents.records x.ends limit r.result r.facts b rb x.loggable
       (subst (λ (e : Ends). IsRefused old.contents.records e limit r.result r.facts b) (sym (one_count old good x.ends y.ends x.ends_are y.ends_are)) y.refused)
 
-logs_good : (limit : ℕ) (r : Report) (old new : Written) → Logs limit r old new → IsGood new
-logs_good limit r old new x = x.last
-
--- ---- a flush makes one thing of it
-
-abbrev Flushed : Written → Files → Type 0
-Flushed old new = FlushStep old.files old.contents old.volume (greatest_in old.contents) (has_item old.contents) new
-
-one_flushed : (old : Written) (a b : Files) → Flushed old a → Flushed old b → a ≡ b
-one_flushed old a b x y = fun_ext (λ file. x.is file ∙ sym (y.is file))
-
-one_flush : (old a b : Written) → Flushes old a → Flushes old b → a ≡ b
-one_flush old a b x y =
-    let files = one_flushed old a.files b.files x.step y.step in
-    same_written a b files (one_contents a.files a.contents b.contents x.is (subst (λ (fs : Files). IsArchive fs b.contents) (sym files) y.is)) (x.volume ∙ sym y.volume)
-
-flush_good : (old new : Written) → Flushes old new → IsGood new
-flush_good old new x = x.last
-
--- ---- events lead to one archive
+-- ---- no events go on with what is turned away
 
 module _ (l : LabelFields) (limit : ℕ) where
-  one_step_on : (s : Stand) (e : Event) (a b : Stand) → Good s → Steps l limit s e a → Steps l limit s e b → a ≡ b
-  one_step_on (Stand.found left) (Event.opened stamp) a b good (w, x, is) (v, y, also) = is ∙ ap (λ (o : Written). Stand.opened o) (one_open (starting l stamp) left w v x y) ∙ sym also
-  one_step_on (Stand.found left) (Event.logged r) a b good x y = absurd x
-  one_step_on (Stand.found left) Event.flushed a b good x y = absurd x
-  one_step_on (Stand.found left) Event.synced a b good x y = absurd x
-  one_step_on (Stand.opened old) (Event.opened stamp) a b good x y = absurd x
-  one_step_on (Stand.opened old) (Event.logged r) a b good (w, x, is) (v, y, also) = is ∙ ap (λ (o : Written). Stand.opened o) (one_log limit r old good w v x y) ∙ sym also
-  one_step_on (Stand.opened old) Event.flushed a b good (w, x, is) (v, y, also) = is ∙ ap (λ (o : Written). Stand.opened o) (one_flush old w v x y) ∙ sym also
-  one_step_on (Stand.opened old) Event.synced a b good x y = x ∙ sym y
-
-  step_good : (s : Stand) (e : Event) (a : Stand) → Good s → Steps l limit s e a → Good a
-  step_good (Stand.found left) (Event.opened stamp) a good (w, x, is) = subst Good (sym is) (opens_good (starting l stamp) left w x)
-  step_good (Stand.found left) (Event.logged r) a good x = absurd x
-  step_good (Stand.found left) Event.flushed a good x = absurd x
-  step_good (Stand.found left) Event.synced a good x = absurd x
-  step_good (Stand.opened old) (Event.opened stamp) a good x = absurd x
-  step_good (Stand.opened old) (Event.logged r) a good (w, x, is) = subst Good (sym is) (logs_good limit r old w x)
-  step_good (Stand.opened old) Event.flushed a good (w, x, is) = subst Good (sym is) (flush_good old w x)
-  step_good (Stand.opened old) Event.synced a good x = subst Good (sym x) good
-
-  one_lead_on : (events : List Event) (s a b : Stand) → Good s → Lead l limit s events a → Lead l limit s events b → a ≡ b
-  one_lead_on [] s a b good x y = x ∙ sym y
-  one_lead_on (e ∷ events) s a b good (n, step, x) (m, also, y) =
-      one_lead_on events n a b (step_good s e n good step) x (subst (λ (k : Stand). Lead l limit k events b) (sym (one_step_on s e n m good step also)) y)
-
-  lead_good : (events : List Event) (s a : Stand) → Good s → Lead l limit s events a → Good a
-  lead_good [] s a good x = subst Good (sym x) good
-  lead_good (e ∷ events) s a good (n, step, x) = lead_good events n a (step_good s e n good step) x
-
   -- by way of what the first ones lead to
   split_lead : (front rest : List Event) (s last : Stand) → Lead l limit s (front ++ rest) last → (middle : Stand) × Lead l limit s front middle × Lead l limit middle rest last
   split_lead [] rest s last x = (s, refl, x)
   split_lead (e ∷ front) rest s last (n, step, x) = let more = split_lead front rest n last x in (more.0, (n, step, more.1), more.2)
-
-  one_lead : (left : Files) (events : List Event) (a b : Stand) → LeadFrom l limit left events a → LeadFrom l limit left events b → a ≡ b
-  one_lead left events a b x y = one_lead_on events (Stand.found left) a b tt x y
-
-  pub one_led : (left : Files) (events : List Event) (f g : Files) → LeadsTo l limit left events f → LeadsTo l limit left events g → f ≡ g
-  one_led left events f g x y = fun_ext (λ file. x.are file ∙ ap (λ (s : Stand). files_of s file) (one_lead left events x.stand y.stand x.lead y.lead) ∙ sym (y.are file))
 
   -- no events go on with a result that the archive turns away
   goes_not_on : (left : Files) (events rest : List Event) (r : Report) (w : Written) (fault : LogFault) (files : Files) → LeadFrom l limit left events (Stand.opened w) → Refuses limit r w fault → fault ≢ faults.NoMemory
       → LeadsTo l limit left (events ++ Event.logged r ∷ rest) files → ⊥
   goes_not_on left events rest r w fault files lead refuses other on =
       let parts = split_lead events (Event.logged r ∷ rest) (Stand.found left) on.stand on.lead in
-      let here : Lead l limit (Stand.opened w) (Event.logged r ∷ rest) on.stand = subst (λ (s : Stand). Lead l limit s (Event.logged r ∷ rest) on.stand) (one_lead left events parts.0 (Stand.opened w) parts.1 lead) parts.2 in
-      let good : IsGood w = lead_good events (Stand.found left) (Stand.opened w) tt lead in
+      let here : Lead l limit (Stand.opened w) (Event.logged r ∷ rest) on.stand = subst (λ (s : Stand). Lead l limit s (Event.logged r ∷ rest) on.stand) (one_lead l limit left events parts.0 (Stand.opened w) parts.1 lead) parts.2 in
+      let good : IsGood w = lead_good l limit events (Stand.found left) (Stand.opened w) tt lead in
       not_both limit r w good here.1.0 fault other here.1.1 refuses
 
 -- ---- a result is turned away for one reason
-
-same_opened : (a b : Written) → Stand.opened a ≡ Stand.opened b → a ≡ b
-same_opened a b e = cc
 
 is_fault : (fault : LogFault) (ending : Ending) → ending_of fault ≡ Some ending → fault ≢ faults.NoMemory
 is_fault fault ending is none = none-some ending (sym (ap ending_of none) ∙ is)

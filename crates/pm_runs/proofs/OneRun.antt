@@ -8,6 +8,7 @@ use Rattle.pcp_model.specs.Disk.{Files}
 use Rattle.logging_session.specs.Course.{LeadsTo}
 use Rattle.logging_session.specs.Events.{Event, closing, opening}
 use Rattle.logging_session.proofs.OneReason.{recovered_once}
+use Rattle.logging_run.proofs.OneArchive.{one_led}
 use Rattle.run_script.specs.declared.script.Line.{Line}
 use Rattle.run_script.specs.declared.script.Line.TheVariants.{Tick}
 use Rattle.run_script.specs.declared.script.Script.{Script}
@@ -20,7 +21,7 @@ use Rattle.script_runs.specs.Regions.{ScriptRegion}
 use Rattle.script_runs.specs.Runs.{AsksTooMany, Does, Goes, Halts, RanTo, RunDoes, RunsTo, Shows, TurnsAway, are_idle, line_behind, run_start, shown, with_end}
 use Rattle.script_runs.specs.Steps.{Fails, GoesOn, RunState, fetched_at, pmids_at}
 use Rattle.pm_runs.specs.Scripts.{IsOne, IsOwn}
-use Rattle.pm_runs.proofs.OneArchive.{away_ends, one_away, one_led}
+use Rattle.pm_runs.proofs.OneArchive.{away_ends, one_away}
 use Rattle.pm_runs.proofs.OneLine.{Grows, closing_grows, goes_not_asking, goes_not_failing, grows_not, grows_on, lines_grow, one_state, opening_grows, shows_on, tick_fails_not, went_past}
 
 same_step : (m n : ℕ) (a b : Line) → ◌≡◌ {A = Option (ℕ × Line)} (Some (m, a)) (Some (n, b)) → (m ≡ n) × (a ≡ b)

@@ -9,8 +9,8 @@ use Rattle.pcp_model.proofs.OneReading.{one_reading}
 use Rattle.pcp_model.proofs.Recovered.{recovery_reads, recovery_stays}
 use Rattle.pcp_outside.proofs.Images.{image_now}
 use Rattle.pcp_outside.specs.declared.disk.Disk.{Ghosts as DiskGhosts}
+use Rattle.logging_session.specs.Crashes.{IsAllAfter}
 use Rattle.logging_session.specs.Events.{Event, items_by}
-use Rattle.run_archive.specs.Crashes.{IsAllAfter}
 use Rattle.run_archive.specs.Outcomes.{IsFlushed}
 use Rattle.pm_words.specs.Sides.{DiskSide}
 use Rattle.pm_words.specs.Sound.{LeavesSound, RecoversSound}

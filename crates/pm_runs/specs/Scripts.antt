@@ -6,6 +6,7 @@ use Rattle.pcp_model.specs.Disk.{Files, IsSettled, contents_of}
 use Rattle.pcp_outside.specs.declared.disk.Disk.{Ghosts as DiskGhosts}
 use Rattle.archive_recovery.specs.RecoverFaults.{IsRefused}
 use Rattle.logging_session.specs.ComingBack.{MayBeAfter}
+use Rattle.logging_session.specs.Crashes.{IsAllAfter}
 use Rattle.logging_session.specs.Events.{Event, items_by}
 use Rattle.run_script.specs.declared.script.Script.{Script}
 use Rattle.script_runs.specs.declared.ending.Ending.{Ending}
@@ -13,7 +14,6 @@ use Rattle.script_runs.specs.declared.ending.Ending.TheVariants as ends
 use Rattle.script_runs.specs.Archives.{IsRecovered}
 use Rattle.script_runs.specs.Regions.{ScriptRegion}
 use Rattle.script_runs.specs.Runs.{RanTo, RunDoes, RunsTo}
-use Rattle.run_archive.specs.Crashes.{IsAllAfter}
 use Rattle.run_archive.specs.Outcomes.{WentOn, left_of}
 use Rattle.pm_words.specs.declared.refusal.Refusal.{Refusal}
 use Rattle.pm_words.specs.declared.refusal.Refusal.TheVariants.{Compressed, NotArchive, DiskFault}

@@ -6,15 +6,16 @@ use Rattle.pcp_model.specs.Disk.{Files}
 use Rattle.region_rule.specs.Seats.{Token}
 use Rattle.fetch_answers.specs.declared.fetch.Fetched.{Fetched}
 use Rattle.fetch_engine.specs.declared.server.Mounted.{Mounted}
+use Rattle.logging_session.specs.Crashes.{LosesAtMostOne}
 use Rattle.logging_session.specs.Events.{Event}
+use Rattle.logging_session.proofs.Losing.{loses_opening}
 use Rattle.run_script.specs.declared.script.Script.{Script}
 use Rattle.script_runs.specs.declared.ending.Ending.{Ending}
 use Rattle.script_runs.specs.declared.ending.Ending.TheVariants as ends
 use Rattle.script_runs.specs.declared.ending.LimitKind.TheVariants as kinds
 use Rattle.script_runs.specs.Archives.{report_of}
-use Rattle.run_archive.specs.Crashes.{LosesAtMostOne}
 use Rattle.run_archive.specs.Shown.{events_of}
-use Rattle.run_archive.proofs.Losing.{loses_last, loses_opening, loses_results}
+use Rattle.run_archive.proofs.Losing.{loses_last, loses_results}
 use Rattle.record_run.specs.Beside.{IsSampled}
 use Rattle.record_run.specs.Stopping.{LeavesLastUnsure, LoggingDid, LogsResults, OpensForLast}
 

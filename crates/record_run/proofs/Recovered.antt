@@ -15,13 +15,14 @@ use Rattle.archive_recovery.specs.RecoverFaults.{IsRecoverFault}
 use Rattle.archive_recovery.specs.Told.{WasRecovered}
 use Rattle.fetch_answers.specs.declared.fetch.Fetched.{Fetched}
 use Rattle.fetch_engine.specs.declared.server.Mounted.{Mounted}
+use Rattle.logging_session.proofs.Losing.{loses_none}
 use Rattle.run_script.specs.declared.script.Script.{Script}
 use Rattle.script_runs.specs.declared.ending.Ending.{Ending}
 use Rattle.script_runs.specs.declared.ending.Ending.TheVariants as ends
 use Rattle.run_archive.specs.declared.replayed.Replayed.{Replayed}
 use Rattle.run_archive.specs.Outcomes.{RunsOnFiles, ended_by}
 use Rattle.run_archive.proofs.Beginning.{told_left}
-use Rattle.run_archive.proofs.Losing.{loses_ended, loses_none}
+use Rattle.run_archive.proofs.Losing.{loses_ended}
 use Rattle.run_archive.proofs.Outcomes.{unbegun, unrecovered, unrecovered_wants, went_on}
 use Rattle.record_run.specs.Beside.{Beside}
 use Rattle.record_run.specs.Halting.{HasLeft, IsRecorded}

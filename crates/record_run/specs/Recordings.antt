@@ -8,13 +8,13 @@ use Rattle.pcp_outside.specs.declared.disk.Disk.{Ghosts as DiskGhosts}
 use Rattle.region_rule.specs.Seats.{Token}
 use Rattle.fetch_answers.specs.declared.fetch.Fetched.{Fetched}
 use Rattle.fetch_engine.specs.declared.server.Mounted.{Mounted}
+use Rattle.logging_session.specs.Crashes.{LosesAtMostOne}
 use Rattle.logging_session.specs.Events.{Event}
 use Rattle.run_script.specs.declared.script.Script.{Script}
 use Rattle.script_runs.specs.declared.ending.Ending.{Ending}
 use Rattle.script_runs.specs.declared.ending.Ending.TheVariants as ends
 use Rattle.text_lines.specs.Spelling.{one_number}
 use Rattle.run_archive.specs.declared.replayed.Replayed.{Replayed}
-use Rattle.run_archive.specs.Crashes.{LosesAtMostOne}
 use Rattle.run_archive.specs.Outcomes.{RunsOnFiles, ended}
 use Rattle.run_archive.specs.Sampling.{HasEnded}
 use Rattle.record_run.specs.Beside.{Beside, IsSampled}

@@ -20,18 +20,19 @@ use Rattle.archive_recovery.proofs.Settled.{settled_begins}
 use Rattle.logger_core.proofs.Calls.{no_call, run_then}
 use Rattle.logging_session.specs.ComingBack.{ComesBack, ComesBackTo, MayBeAfter, start_of}
 use Rattle.logging_session.specs.Course.{WentBy}
-use Rattle.logging_session.specs.Events.{Event, LeadFrom, acknowledged_by, closing, flushed_behind, items_by, sure_after}
+use Rattle.logging_session.specs.Crashes.{IsAllAfter}
+use Rattle.logging_session.specs.Events.{Event, LeadFrom, acknowledged_by, closing, flushed_behind, items_by}
 use Rattle.logging_session.specs.Keeping.{AreWhole, Carried, held_in}
 use Rattle.logging_session.specs.Written.{Stand}
 use Rattle.logging_session.proofs.ComeBack.{fewer, same_left}
 use Rattle.logging_session.proofs.Course.{survives_now, survives_since}
-use Rattle.logging_session.proofs.Events.{items_more, sure_flushed}
+use Rattle.logging_session.proofs.Events.{items_more}
+use Rattle.logging_session.proofs.Losing.{closing_sure}
 use Rattle.logging_session.proofs.Recovering.{later_comes, recovered_so, recovering_comes}
 use Rattle.logging_session.proofs.Sessions.{kept_files}
 use Rattle.script_runs.specs.declared.ending.Ending.{Ending}
 use Rattle.script_runs.specs.declared.ending.Ending.TheVariants as ends
 use Rattle.script_runs.specs.Archives.{run_label}
-use Rattle.run_archive.specs.Crashes.{IsAllAfter}
 use Rattle.run_archive.specs.Kept.{IsLeft, KeepsRun, OverAny}
 use Rattle.run_archive.specs.Outcomes.{HasFinished, HasFlushed, IsUnrecovered, RunsOnFiles, ended, ended_by}
 
@@ -44,21 +45,6 @@ flushed_items (x ∷ items) events = items_more events Event.flushed ∙ append-
 -- they log nothing
 closing_items : (events : List Event) → items_by (closing events) ≡ items_by events
 closing_items events = flushed_items (items_by events) events
-
-sure_bounded : (events : List Event) (all sure : ℕ) → sure ≤ all → sure_after all sure events ≤ all + length (items_by events)
-sure_bounded [] all sure le = omega (arith, le)
-sure_bounded (Event.opened t ∷ events) all sure le = sure_bounded events all sure le
-sure_bounded (Event.logged r ∷ events) all sure le = omega (arith, sure_bounded events (all + 1) sure (omega (arith, le)))
-sure_bounded (Event.flushed ∷ events) all sure le = sure_bounded events all all (omega arith)
-sure_bounded (Event.synced ∷ events) all sure le = sure_bounded events all all (omega arith)
-
-flushed_sure : (items : List Item) (events : List Event) → items_by events ≡ items → acknowledged_by (flushed_behind items events) ≡ length (items_by events)
-flushed_sure [] events none = let many : length (items_by events) ≡ 0 = ap (λ (xs : List Item). length xs) none in omega (arith, many, sure_bounded events 0 0 (omega arith))
-flushed_sure (x ∷ items) events some = sure_flushed events
-
--- and acknowledge all
-closing_sure : (events : List Event) → acknowledged_by (closing events) ≡ length (items_by events)
-closing_sure events = flushed_sure (items_by events) events refl
 
 -- ---- endings
 

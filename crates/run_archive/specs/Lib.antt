@@ -1,4 +1,3 @@
-pub mod Crashes
 pub mod Endings
 pub mod Kept
 pub mod Plans

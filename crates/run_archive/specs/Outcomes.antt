@@ -13,12 +13,12 @@ use Rattle.archive_recovery.specs.Halfway.{MayBeHalfway}
 use Rattle.archive_recovery.specs.RecoverFaults.{IsRecoverFault}
 use Rattle.logging_session.specs.ComingBack.{MayBeAfter}
 use Rattle.logging_session.specs.Course.{LeadsTo, WentBy}
+use Rattle.logging_session.specs.Crashes.{IsAllAfter}
 use Rattle.logging_session.specs.Events.{Event, closing, items_by}
 use Rattle.logging_session.specs.Keeping.{AreWhole}
 use Rattle.script_runs.specs.declared.ending.Ending.{Ending}
 use Rattle.script_runs.specs.declared.ending.Ending.TheVariants as ends
 use Rattle.script_runs.specs.Archives.{run_label}
-use Rattle.run_archive.specs.Crashes.{IsAllAfter}
 
 -- the events with those of the end: unless the disk failed, what was logged is flushed
 abbrev pub ended : Ending → List Event → List Event
