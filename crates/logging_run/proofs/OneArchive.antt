@@ -53,7 +53,7 @@ one_open l left a b (x, w) (y, v) =
 abbrev pub IsGood : Written → Type 0
 IsGood w = EndsWhole w.files w.contents w.volume
 
-abbrev Good : Stand → Type 0
+abbrev pub Good : Stand → Type 0
 Good (Stand.found left) = Unit {0}
 Good (Stand.opened w) = IsGood w
 
