@@ -7,7 +7,7 @@ use case_book::{Answer, Kept, Line};
 use case_outside::{Drive, Held, disk_of, file_of, snapshot};
 use case_records::{is_described, write_item};
 use pcp_base::{Item, List, NoMemory};
-use pcp_outside::MemDisk;
+use pcp_memory::MemDisk;
 use std::alloc::Global;
 
 fn is_told(alloc: Global, item: &Item, wanted: &[u8]) -> Result<bool, NoMemory> {

@@ -1,7 +1,7 @@
 //! The files of one moment, and each length that a crash may leave of them.
 use case_outside::Held;
 use pcp_base::{Bytes, FileId, List, NoMemory};
-use pcp_outside::MemDisk;
+use pcp_memory::MemDisk;
 use std::alloc::Global;
 
 /// What a file held at a moment: how many bytes were sure, and all of them; and at which length it is looked at.

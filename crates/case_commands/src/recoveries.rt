@@ -3,7 +3,7 @@ use crate::parts::{Part, advance, fronts_of, parts_at, parts_cut};
 use case_book::{Answer, Kept, Line};
 use case_outside::{Drive, Held, bytes_in, disk_of, file_of, snapshot};
 use pcp_base::{FileId, List, NoMemory};
-use pcp_outside::{MemDisk, MemSink, MemSource};
+use pcp_memory::{MemDisk, MemSink, MemSource};
 use pm_commands::offline;
 use std::alloc::Global;
 

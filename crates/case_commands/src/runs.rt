@@ -2,7 +2,7 @@
 use case_book::Answer;
 use case_outside::{Given, Outside, PieceSink, PieceSource, put_changed, snapshot};
 use pcp_base::{List, NoMemory};
-use pcp_outside::{MemDisk, MemSink, MemSource};
+use pcp_memory::{MemDisk, MemSink, MemSource};
 use pm_commands::offline;
 use std::alloc::Global;
 

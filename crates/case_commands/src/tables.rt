@@ -3,7 +3,8 @@ use crate::runs::words_of;
 use case_book::{Answer, Line};
 use case_outside::{Held, Outside, bytes_in, planned_disk, snapshot};
 use pcp_base::{FileId, List, NoMemory};
-use pcp_outside::{Call, Disk, Fault, MemDisk, MemSink, MemSource};
+use pcp_memory::{Call, Fault, MemDisk, MemSink, MemSource};
+use pcp_outside::Disk;
 use pm_commands::offline;
 use std::alloc::Global;
 

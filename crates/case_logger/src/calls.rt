@@ -13,7 +13,7 @@ use case_outside::Drive;
 use logger_core::{LogFault, Logger};
 use pcp_base::{List, NoMemory, PmResult, Stamp};
 use pcp_model::Label;
-use pcp_outside::MemDisk;
+use pcp_memory::MemDisk;
 use result_form::fits;
 use std::alloc::Global;
 

@@ -3,7 +3,7 @@ use crate::items::{are_described, items_in, tell_item};
 use archive_recovery::recover;
 use case_outside::{Drive, Held, snapshot};
 use pcp_base::{Bytes, FileId, NoMemory};
-use pcp_outside::MemDisk;
+use pcp_memory::MemDisk;
 use std::alloc::Global;
 
 // A file at one moment: how many of its bytes were sure, and all of them.

@@ -5,7 +5,8 @@ use crate::drive::Drive;
 use crate::numbers::{file_of, split_file};
 use case_book::{Answer, Kept, Line};
 use pcp_base::{FileId, NoMemory};
-use pcp_outside::{Disk, Failed, MemDisk};
+use pcp_memory::MemDisk;
+use pcp_outside::{Disk, Failed};
 use std::alloc::Global;
 
 fn tell_done(done: Result<(), Failed>) -> &'static str {

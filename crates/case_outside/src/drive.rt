@@ -5,7 +5,8 @@ use crate::files::{Held, snapshot};
 use crate::numbers::{file_of, split_file};
 use case_book::{Kept, Line};
 use pcp_base::{FileId, List, NoMemory};
-use pcp_outside::{Call, Disk, Fault, MemDisk};
+use pcp_memory::{Call, Fault, MemDisk};
+use pcp_outside::Disk;
 use std::alloc::Global;
 
 /// A disk in memory, which is made with the first call of it.

@@ -2,7 +2,7 @@
 use crate::numbers::name_of;
 use case_book::Answer;
 use pcp_base::{FileId, NoMemory};
-use pcp_outside::MemDisk;
+use pcp_memory::MemDisk;
 use std::alloc::Global;
 
 /// A file and its bytes.

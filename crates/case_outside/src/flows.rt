@@ -2,7 +2,8 @@
 use crate::outside::{Given, Outside};
 use case_book::{Answer, Line};
 use pcp_base::{Bytes, List, NoMemory};
-use pcp_outside::{MemSink, MemSource, ReadFault, SureSource, read_to_limit, write_all};
+use pcp_memory::{MemSink, MemSource, SureSource};
+use pcp_outside::{ReadFault, read_to_limit, write_all};
 use std::alloc::Global;
 
 // Puts the bytes that were read, or why they weren't.

@@ -4,7 +4,7 @@ use crate::files::{Held, bytes_in, snapshot};
 use crate::numbers::{file_of, split_file};
 use case_book::{Answer, Kept, Line};
 use pcp_base::{FileId, NoMemory};
-use pcp_outside::MemDisk;
+use pcp_memory::MemDisk;
 use std::alloc::Global;
 
 // The bytes that a file is to hold by a line `files FORM`.

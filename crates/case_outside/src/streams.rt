@@ -1,5 +1,6 @@
 //! Sources and sinks over bytes in memory that move at most so many bytes a call.
-use pcp_outside::{Failed, MemSink, MemSource, Sink, Source};
+use pcp_memory::{MemSink, MemSource};
+use pcp_outside::{Failed, Sink, Source};
 
 /// A source that gives at most `most` bytes a call.
 #[derive(Drop)]

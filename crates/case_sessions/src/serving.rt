@@ -9,7 +9,8 @@ use case_book::Words;
 use case_outside::PieceSource;
 use fetch_engine::Server;
 use pcp_base::{List, NoMemory};
-use pcp_outside::{Clock, ListClock, MemSink, MemSource, SessionEnd};
+use pcp_memory::{ListClock, MemSink, MemSource};
+use pcp_outside::{Clock, SessionEnd};
 use pmcd_session::{SessionSeat, session};
 use std::alloc::Global;
 

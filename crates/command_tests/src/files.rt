@@ -1,6 +1,7 @@
 //! The sample's image, which `once` logs into a folder.
 use pcp_base::List;
-use pcp_outside::{Disk, MemSink, SureSource};
+use pcp_memory::{MemSink, SureSource};
+use pcp_outside::Disk;
 use pcp_system::FileDisk;
 use pm_commands::offline;
 use std::alloc::{AllocError, Global};

@@ -1,6 +1,6 @@
 //! The help names each command with its words.
 use pcp_base::List;
-use pcp_outside::MemSink;
+use pcp_memory::MemSink;
 use pcp_shell::write_help;
 use std::test::Fail;
 

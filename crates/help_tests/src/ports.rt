@@ -1,6 +1,6 @@
 //! A port that another listener has.
 use pcp_base::List;
-use pcp_outside::{MemSink, SureSource};
+use pcp_memory::{MemSink, SureSource};
 use pcp_shell::serve_clients;
 use std::alloc::{Alloc, AllocError, Global};
 use std::net::{Net, TcpListener, TcpStream};

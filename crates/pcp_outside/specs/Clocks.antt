@@ -7,10 +7,3 @@ abbrev pub GivesMoment : {E : Type 0} → List Moment → List Moment → Result
 GivesMoment before after (Ok (Some t)) = before ≡ t ∷ after
 GivesMoment before after (Ok None) = (before ≡ []) × (after ≡ [])
 GivesMoment before after (Err _) = after ≡ before
-
--- a clock in memory: the moments left, the numbers of the calls that are to fail, how many calls there were, and its faults
-pub record ClockState : Type 0 where
-  pub left : List Moment
-  pub fails : List ℕ
-  pub asked : ℕ
-  pub faults : ℕ

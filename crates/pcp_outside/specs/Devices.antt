@@ -1,5 +1,5 @@
 -- What the calls of a disk do to what its files hold, and what a crash may leave at each moment.
-use Rattle.std.specs.Prelude.{◌≡◌, ◌⊎◌, ℕ, ◌+◌, ◌-◌, ◌<◌, ◌≤◌, List, [], ◌++◌, length, take, false, if◌then◌else◌, Result, Ok, Err}
+use Rattle.std.specs.Prelude.{◌≡◌, ◌⊎◌, ℕ, ◌+◌, ◌-◌, ◌<◌, ◌≤◌, List, [], ◌++◌, length, take, Bool, true, false, nat_lt, if◌then◌else◌, Result, Ok, Err}
 use Rattle.pcp_base.specs.declared.file.FileId.{FileId}
 use Rattle.pcp_base.specs.declared.file.FileId.TheVariants.{Meta, Index, Volume}
 use Rattle.pcp_model.specs.Disk.{Files, Held, Holdings, bytes_of, CrashImage}
@@ -11,6 +11,14 @@ abbrev pub IsNumbered : FileId → Type 0
 IsNumbered (Volume k) = k < 4294967295
 IsNumbered Meta = Unit {0}
 IsNumbered Index = Unit {0}
+
+-- Meta, Index, and then the volumes upwards
+abbrev pub comes_before : FileId → FileId → Bool
+comes_before Meta Meta = false
+comes_before Meta _ = true
+comes_before Index (Volume _) = true
+comes_before (Volume k) (Volume j) = nat_lt k j
+comes_before _ _ = false
 
 -- one file holds this now, and the others what they held
 pub record Becomes (file : FileId) (h : Held) (old new : Holdings) : Type 0 where

@@ -28,13 +28,3 @@ pub record IsFresh (source_faults sink_faults clock_faults : ℕ) (written : Lis
   pub sink : sink_faults ≡ 0
   pub clock : clock_faults ≡ 0
   pub nothing_written : written ≡ []
-
--- a door in memory: the connections left and those given, the reports, the numbers of the calls of `next` that are to
--- fail, how many of these calls there were, and its faults
-pub record DoorState : Type 0 where
-  pub left : List Connection
-  pub given : List Connection
-  pub reports : List Report
-  pub fails : List ℕ
-  pub asked : ℕ
-  pub faults : ℕ

@@ -1,11 +1,6 @@
 pub mod Causes
 pub mod Clocks
-pub mod Contents
 pub mod Devices
 pub mod Doors
-pub mod Memory
-pub mod Plans
-pub mod Record
 pub mod Sides
 pub mod Streams
-pub mod Volumes

@@ -2,7 +2,7 @@
 ghost use Rattle.std.specs.Prelude.{◌≡◌, ◌≤◌, ◌+◌, ℕ, length, take, drop, IfOk, OnOk, Option};
 ghost use Rattle.pcp_model.specs.Disk.{CrashImage};
 ghost use Rattle.pcp_outside.specs.Causes.{HasCause};
-ghost use Rattle.pcp_outside.specs.Devices.{IsNumbered, AppendsSure, LeavesOnly, holdings_after_append};
+ghost use Rattle.pcp_outside.specs.Devices.{IsNumbered, AppendsSure, LeavesOnly, comes_before, holdings_after_append};
 
 use crate::failed::Failed;
 use pcp_base::FileId;
@@ -131,4 +131,16 @@ pub fn append_synced<D: Disk>(disk: &mut D, file: FileId, bytes: &[u8]) -> Resul
 {
     disk.append(file, bytes)?;
     disk.sync(file)
+}
+
+/// Whether a file is named before another: Meta, Index, then the volumes upwards.
+pub fn is_before(a: FileId, b: FileId) -> bool
+    ensures { result ≡ comes_before a b }
+{
+    match (a, b) {
+        (FileId::Meta, FileId::Index | FileId::Volume(_)) => true,
+        (FileId::Index, FileId::Volume(_)) => true,
+        (FileId::Volume(first), FileId::Volume(second)) => first < second,
+        _ => false,
+    }
 }

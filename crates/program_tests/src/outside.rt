@@ -1,7 +1,8 @@
 //! The objects over the system: readers and writers, a door over loopback, the clock, and the files of an archive in a folder.
+use pcp_memory::{ListClock, MemDisk, MemDoor, MemSink, MemSource};
 use pcp_outside::{
-    Disk, Door, Failed, FileId, LOGGER, ListClock, MemDisk, MemDoor, MemSink, MemSource,
-    SessionEnd, Sink, Source, Turn, append_synced, read_to_limit, write_all,
+    Disk, Door, Failed, FileId, LOGGER, SessionEnd, Sink, Source, Turn, append_synced,
+    read_to_limit, write_all,
 };
 use pcp_system::{
     ClientSource, Connection, FileDisk, Pace, Patience, ReaderSource, SystemClock, TcpDoor,

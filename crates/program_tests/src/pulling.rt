@@ -1,7 +1,8 @@
 //! A logger and its peer, beside each other over loopback: a server, or who ends in the middle of a reply.
 use crate::shared::{ADDS, BY_TURNS, Held, is_served, words_of};
 use pcp_base::{FileId, List};
-use pcp_outside::{Free, MemDisk, MemSink, Turn};
+use pcp_memory::{MemDisk, MemSink};
+use pcp_outside::{Free, Turn};
 use pcp_system::{ClientSource, Connection, WriterSink, connect};
 use pm_pulling::pull;
 use std::alloc::{Alloc, Global};

@@ -1,7 +1,8 @@
 //! Clients that come in over loopback; and doors in memory, with calls of the source, of the sink and of the doors that fail.
 use crate::shared::{ADDS, BY_TURNS, HITS, Held, is_served, words_of};
 use pcp_base::List;
-use pcp_outside::{Free, MemDoor, MemSink, MemSource, Turn};
+use pcp_memory::{MemDoor, MemSink, MemSource};
+use pcp_outside::{Free, Turn};
 use pm_serving::run_serve;
 use std::alloc::{Alloc, AllocError, Global};
 use std::io::{Read, Write};

@@ -1,6 +1,7 @@
 //! What several subjects share: scripts, words, turns that hold who takes them, and a server of clients over loopback.
 use pcp_base::List;
-use pcp_outside::{LOGGER, MemSink, SureSource, Turn};
+use pcp_memory::{MemSink, SureSource};
+use pcp_outside::{LOGGER, Turn};
 use pcp_system::TcpDoor;
 use pm_serving::run_serve;
 use std::alloc::{Alloc, AllocError, Global};

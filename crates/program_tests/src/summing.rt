@@ -1,7 +1,8 @@
 //! Summaries of an archive of many volumes: its workers run beside each other, and each volume has one.
 use crate::shared::{Held, Hold, words_of};
 use pcp_base::List;
-use pcp_outside::{MemDisk, MemSink, SureSource, Turn};
+use pcp_memory::{MemDisk, MemSink, SureSource};
+use pcp_outside::Turn;
 use pm_commands::offline;
 use pm_summing::summary;
 use std::alloc::{AllocError, Global};

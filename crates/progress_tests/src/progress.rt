@@ -1,6 +1,6 @@
 //! What a recording tells on a terminal.
 use pcp_base::List;
-use pcp_outside::{MemDisk, MemSink, SureSource};
+use pcp_memory::{MemDisk, MemSink, SureSource};
 use pcp_shell::record_samples;
 use std::alloc::{Alloc, AllocError, Global};
 use std::fmt::Display;

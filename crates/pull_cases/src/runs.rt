@@ -2,7 +2,8 @@
 use case_book::Answer;
 use case_outside::{Outside, PieceSink, PieceSource, put_changed, snapshot};
 use pcp_base::{List, NoMemory};
-use pcp_outside::{MemDisk, MemSink, MemSource, Turn};
+use pcp_memory::{MemDisk, MemSink, MemSource};
+use pcp_outside::Turn;
 use pm_pulling::pull;
 use std::alloc::Global;
 use std::sync::atomic::{AtomicU64, Ordering};

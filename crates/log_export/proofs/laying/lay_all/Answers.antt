@@ -3,7 +3,7 @@ use Rattle.std.proofs.Common.{◌≡◌, ℕ, List, ◌++◌, take, refl, ap, �
 use Rattle.pcp_base.specs.declared.file.FileId.TheVariants.{Meta, Index as IndexFile}
 use Rattle.pcp_model.specs.Disk.{Files, Holdings, contents_of}
 use Rattle.pcp_outside.specs.Devices.{Becomes, made_sure}
-use Rattle.pcp_outside.proofs.Left.{on_ok}
+use Rattle.pcp_outside.proofs.Results.{on_ok}
 use Rattle.archive_loading.proofs.Looking.{looks_on}
 use Rattle.log_export.specs.declared.planning.Plan.{Plan}
 use Rattle.log_export.specs.Copying.{piece_of}

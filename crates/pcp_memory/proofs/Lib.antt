@@ -1,0 +1,4 @@
+pub mod Left
+pub mod Moments
+pub mod Planned
+pub mod VolumeCounts

@@ -1,0 +1,5 @@
+pub mod Contents
+pub mod Memory
+pub mod Plans
+pub mod Record
+pub mod Volumes
