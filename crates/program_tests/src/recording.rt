@@ -25,8 +25,8 @@ const STEPS: &[u8] =
     b"attach app 0\nattach web 0\nadd app 0 2 - 5\nadd web 0 2 - 5\nadd app 0 2 - 5\ndetach app 0\ndetach web 0\n\
 attach web 1\nadd web 1 2 - 5\ndetach web 1\n";
 
-// The first two writers are 0 and 1. Both stand before their adds until the first sample was taken. Then each sample waits for an add, and the next add for the
-// sample; the last two adds stand before the last sample that waits.
+// The first two writers are 0 and 1. Both stand before their adds until the first sample was taken. Then each sample waits for an add,
+// and the next add for the sample; the last two adds stand before the last sample that waits.
 const BESIDE: [Hold; 10] = [
     (LOGGER, 0, 0, 2),
     (LOGGER, 0, 1, 1),
