@@ -1,31 +1,16 @@
 //! A logger and its peer, beside each other over loopback: a server, or who ends in the middle of a reply.
+use crate::shared::{ADDS, BY_TURNS, Held, is_served, words_of};
 use pcp_base::{FileId, List};
-use pcp_memory::{MemDisk, MemSink, SureSource};
+use pcp_memory::{MemDisk, MemSink};
 use pcp_outside::{Free, Turn};
-use pcp_system::{ClientSource, Connection, TcpDoor, WriterSink, connect};
+use pcp_system::{ClientSource, Connection, WriterSink, connect};
 use pm_pulling::pull;
-use pm_serving::run_serve;
-use std::alloc::{Alloc, AllocError, Global};
+use std::alloc::{Alloc, Global};
 use std::io::{Read, Write};
 use std::net::{Net, Shutdown, TcpListener, TcpStream};
-use std::sync::Wait;
-use std::sync::atomic::{AtomicBool, AtomicU64, Ordering};
 use std::test::Fail;
-use std::thread::Threads;
-use std::time::{Clock, Duration};
+use std::time::Clock;
 use std::{io, thread};
-
-// A value that opens on 3, and a writer that adds 5.
-const SCRIPT: &[u8] = b"image D\nmmv 1 5 0 0 1\nindom 1 - -\ninstance 1 0 \"a\"\n\
-metric per 4 u32 counter 00100000 1 - -\nvalue 4 0 3\nend\nregion app D 64 3\nstart\n\
-attach app 1\nadd app 1 4 0 5\ndetach app 1\n";
-
-// The writer's number, which is the number of its pass; the logger's is 0.
-const WRITER: u32 = 1;
-
-const SERVED: [&str; 2] = ["serve", "1"];
-
-const PULLED: [&str; 4] = ["pull", "2", "1048576", "mmv.app.per"];
 
 // The greeting, PMNS_IDS, DESC, INSTANCE, a RESULT that shows 3, and 20 bytes of a second one.
 const REPLIES: &[u8] =
@@ -42,57 +27,6 @@ const LENGTH: &[u8] = b"\x00\x00\x00\x28";
 
 const SET: &[u8] =
     b"\x00\x00\x00\x01\x11\x80\x04\x04\x00\x00\x00\x01\x00\x00\x00\x00\x00\x00\x00\x00\x00\x00\x00";
-
-// Holds the writer's steps until as many samples are logged, and each sample until the writer stands before its next step, each for so
-// many milliseconds, and tells whether one came too late.
-#[derive(Drop)]
-struct Held<'a, R: Clock> {
-    rt: &'a R,
-    reached: AtomicU64,
-    logged: AtomicU64,
-    is_late: AtomicBool,
-}
-
-impl<'a, R: Clock> Held<'a, R> {
-    fn new(rt: &'a R) -> Self {
-        Held {
-            rt,
-            reached: AtomicU64::new(0),
-            logged: AtomicU64::new(0),
-            is_late: AtomicBool::new(false),
-        }
-    }
-
-    fn wait(&self, count: &AtomicU64, least: u64) {
-        for _ in 0..10_000u32 {
-            if count.load(Ordering::SeqCst) >= least || self.is_late.load(Ordering::SeqCst) {
-                return;
-            }
-            thread::sleep(self.rt, Duration::from_millis(1));
-        }
-        self.is_late.store(true, Ordering::SeqCst);
-    }
-}
-
-impl<'a, R: Clock> Turn for Held<'a, R> {
-    fn turn(&self, who: u32, step: u64) {
-        if who == WRITER {
-            self.reached.store(step, Ordering::SeqCst);
-            self.wait(&self.logged, step);
-        } else {
-            self.logged.store(step, Ordering::SeqCst);
-            self.wait(&self.reached, step.saturating_add(1));
-        }
-    }
-}
-
-fn words_of(alloc: Global, words: &[&str]) -> Result<Vec<String>, AllocError> {
-    let mut all = Vec::new(alloc);
-    for word in words {
-        all.push(word.to_string(alloc)?)?;
-    }
-    Ok(all)
-}
 
 // Whether the records behind the label of a volume show these values, at whatever moments.
 fn are_logged(volume: &[u8], values: &[u8]) -> bool {
@@ -131,7 +65,7 @@ fn is_pulled<R: Net<Listener = TcpListener, Stream = TcpStream> + Alloc<A = Glob
     values: &[u8],
 ) -> io::Result<bool> {
     let alloc = rt.alloc();
-    let words = words_of(alloc, &PULLED)?;
+    let words = words_of(alloc, "pull 2 1048576 mmv.app.per")?;
     let (mut replies, mut requests) = connect(rt, port)?;
     let mut out = MemSink::new(alloc, List::empty(alloc));
     let mut disk = MemDisk::new(alloc, List::empty(alloc));
@@ -148,40 +82,6 @@ fn is_pulled<R: Net<Listener = TcpListener, Stream = TcpStream> + Alloc<A = Glob
     Ok(answer == status && out.bytes() == told && are_logged(volume, values))
 }
 
-// The call alone, over four doors of a listener.
-fn call_serve<'a, R: Threads + Wait + Clock + Alloc<A = Global> + Send + Sync>(
-    rt: &'a R,
-    listener: &'a TcpListener,
-    words: &[String],
-    input: &mut SureSource,
-    out: &mut MemSink,
-    turn: &Held<'_, R>,
-) -> u8 {
-    let mut doors = [
-        TcpDoor::new(listener, rt),
-        TcpDoor::new(listener, rt),
-        TcpDoor::new(listener, rt),
-        TcpDoor::new(listener, rt),
-    ];
-    let mut served = None;
-    let alloc = rt.alloc();
-    run_serve(rt, alloc, words, input, out, &mut doors, turn, &mut served)
-}
-
-// Serves one client of a listener beside the writer, and tells whether that was done and told.
-fn is_served<R: Threads + Wait + Clock + Alloc<A = Global> + Send + Sync>(
-    rt: &R,
-    listener: &TcpListener,
-    turn: &Held<'_, R>,
-) -> Result<bool, AllocError> {
-    let alloc = rt.alloc();
-    let words = words_of(alloc, &SERVED)?;
-    let mut input = SureSource::new(List::from_vec(SCRIPT.to_vec(alloc)?));
-    let mut out = MemSink::new(alloc, List::empty(alloc));
-    let status = call_serve(rt, listener, &words, &mut input, &mut out, turn);
-    Ok(status == 0 && out.bytes() == b"served 1\n".as_slice())
-}
-
 // Two samples of a server, one before its writer adds and one behind that; then the writer goes on to its end.
 fn is_pulled_live<R: Net<Listener = TcpListener, Stream = TcpStream> + Clock + Alloc<A = Global>>(
     rt: &R,
@@ -189,7 +89,7 @@ fn is_pulled_live<R: Net<Listener = TcpListener, Stream = TcpStream> + Clock + A
     held: &Held<'_, R>,
 ) -> io::Result<bool> {
     let is_pulled = is_pulled(rt, port, held, (0, b"logged 2\n"), &[3, 8]);
-    held.logged.store(u64::MAX, Ordering::SeqCst);
+    held.turn(0, 2);
     is_pulled
 }
 
@@ -206,16 +106,16 @@ fn is_asked(alloc: Global, listener: &TcpListener) -> io::Result<bool> {
 // The samples of a server are logged as its region stands at each of them.
 #[test]
 fn pulled_live(rt: HostRuntime) -> Result<(), Fail> {
-    let held = Held::new(&rt);
+    let held = Held::new(&rt, &BY_TURNS);
     let listener = TcpListener::bind(&rt, "127.0.0.1:0")?;
     let port = listener.local_addr()?.port();
     let (is_logged, is_served) = thread::join(
         &rt,
         || is_pulled_live(&rt, port, &held),
-        || is_served(&rt, &listener, &held),
+        || is_served(&rt, &listener, "serve 1", ADDS, b"served 1\n", &held),
     );
     assert!(rt; is_logged?);
-    assert!(rt; is_served? && !held.is_late.load(Ordering::SeqCst));
+    assert!(rt; is_served? && held.is_well());
     Ok(())
 }
 

@@ -1,4 +1,5 @@
 //! Summaries of an archive of many volumes: its workers run beside each other, and each volume has one.
+use crate::shared::{Held, Hold, words_of};
 use pcp_base::List;
 use pcp_memory::{MemDisk, MemSink, SureSource};
 use pcp_outside::Turn;
@@ -7,16 +8,16 @@ use pm_summing::summary;
 use std::alloc::{AllocError, Global};
 use std::sync::atomic::{AtomicBool, AtomicU64, Ordering};
 use std::test::Fail;
-use std::thread::{self, Threads};
-use std::time::{Clock, Duration};
+use std::thread::Threads;
+use std::time::Clock;
 
 // 600 samples in 17 volumes, of which the first three are emptied then.
 const MADE: &str = "make 1 600 65536";
 
 const RETIRED: &str = "retire 3";
 
-// Notes each volume that is called for, by four workers of which each has every fourth volume from the fourth one on, and tells whether one came out
-// of its order.
+// Notes each volume that is called for, by four workers of which each has every fourth volume from the fourth one on, and tells whether
+// one came out of its order.
 #[derive(Drop)]
 struct Noted {
     volumes: AtomicU64,
@@ -57,55 +58,19 @@ impl Turn for Noted {
     }
 }
 
-// Holds the first two workers until both were called, each for so many milliseconds, and tells whether one waited too long.
+// Each of two workers, which have every other volume, waits with its first one until the other one was called for its first.
+const CROSSED: [Hold; 2] = [(0, 0, 1, 0), (1, 0, 0, 0)];
+
+// Counts the volumes of each of two workers, and not those of both.
 #[derive(Drop)]
-struct Held<'a, R: Clock> {
-    rt: &'a R,
-    first: AtomicBool,
-    second: AtomicBool,
-    fails: AtomicBool,
+struct Halved<'a, R: Clock> {
+    held: Held<'a, R>,
 }
 
-impl<'a, R: Clock> Held<'a, R> {
-    fn new(rt: &'a R) -> Self {
-        Held {
-            rt,
-            first: AtomicBool::new(false),
-            second: AtomicBool::new(false),
-            fails: AtomicBool::new(false),
-        }
+impl<'a, R: Clock> Turn for Halved<'a, R> {
+    fn turn(&self, who: u32, step: u64) {
+        self.held.turn(who, step / 2);
     }
-
-    fn wait(&self, other: &AtomicBool) {
-        for _ in 0..10_000u32 {
-            if other.load(Ordering::SeqCst) || self.fails.load(Ordering::SeqCst) {
-                return;
-            }
-            thread::sleep(self.rt, Duration::from_millis(1));
-        }
-        self.fails.store(true, Ordering::SeqCst);
-    }
-}
-
-impl<'a, R: Clock> Turn for Held<'a, R> {
-    fn turn(&self, who: u32, _step: u64) {
-        if who == 0 {
-            self.first.store(true, Ordering::SeqCst);
-            self.wait(&self.second);
-        } else {
-            self.second.store(true, Ordering::SeqCst);
-            self.wait(&self.first);
-        }
-    }
-}
-
-// The words of a line.
-fn words_of(alloc: Global, line: &str) -> Result<Vec<String>, AllocError> {
-    let mut words = Vec::new(alloc);
-    for word in line.split(' ') {
-        words.push(word.to_string(alloc)?)?;
-    }
-    Ok(words)
 }
 
 // The calls alone: whoever calls these has nothing to do with their contracts.
@@ -179,8 +144,10 @@ fn beside_volumes(rt: HostRuntime) -> Result<(), Fail> {
     let alloc = rt.alloc();
     let mut disk = empty_disk(alloc);
     assert!(rt; prepare(alloc, MADE, &mut disk)?);
-    let held = Held::new(&rt);
-    let status = sum_up(&rt, alloc, "summary 2 0 0 1000 0", &mut disk, &held)?;
-    assert!(rt; status == 0 && !held.fails.load(Ordering::SeqCst));
+    let halved = Halved {
+        held: Held::new(&rt, &CROSSED),
+    };
+    let status = sum_up(&rt, alloc, "summary 2 0 0 1000 0", &mut disk, &halved)?;
+    assert!(rt; status == 0 && halved.held.is_well());
     Ok(())
 }

@@ -1,10 +1,180 @@
-//! The files of an archive in the system's folder.
-use pcp_outside::{Disk, FileId, append_synced};
-use pcp_system::FileDisk;
-use std::alloc::{AllocError, Global};
+//! The objects over the system: readers and writers, a door over loopback, the clock, and the files of an archive in a folder.
+use pcp_memory::{ListClock, MemDisk, MemDoor, MemSink, MemSource};
+use pcp_outside::{
+    Disk, Door, Failed, FileId, LOGGER, SessionEnd, Sink, Source, Turn, append_synced,
+    read_to_limit, write_all,
+};
+use pcp_system::{
+    ClientSource, Connection, FileDisk, Pace, Patience, ReaderSource, SystemClock, TcpDoor,
+    WriterSink,
+};
+use std::alloc::{Alloc, AllocError, Global};
 use std::fs::{self, File, Files};
+use std::io::{Cursor, Read, Write, pipe};
+use std::net::{Net, Shutdown, TcpListener, TcpStream};
 use std::os::unix::fs::symlink;
 use std::test::Fail;
+use std::thread;
+use std::time::{Clock, Duration, Instant};
+
+fn needs_send<T: Send>() {}
+
+#[test]
+fn what_a_session_has_may_be_sent(_rt: HostRuntime) {
+    needs_send::<MemDoor>();
+    needs_send::<MemSource>();
+    needs_send::<MemSink>();
+    needs_send::<ListClock>();
+    needs_send::<MemDisk>();
+    needs_send::<ClientSource>();
+    needs_send::<WriterSink<Connection>>();
+}
+
+// Whether a source has these three bytes and ends.
+fn has_all(alloc: Global, source: &mut impl Source, bytes: &[u8]) -> bool {
+    match read_to_limit(alloc, source, 3) {
+        Ok(read) => read.as_slice() == bytes,
+        Err(_) => false,
+    }
+}
+
+// Whether a source gives three bytes at once; then it is let go.
+fn gives_three(source: impl Source + Drop) -> bool {
+    let mut source = source;
+    let mut buffer = [0u8; 4];
+    matches!(source.take(&mut buffer), Ok(3))
+}
+
+fn takes_all(sink: &mut impl Sink) -> bool {
+    write_all(sink, b"abc").is_ok()
+}
+
+#[test]
+fn an_adapter_reads_and_writes(rt: HostRuntime) -> Result<(), Fail> {
+    let alloc = rt.alloc();
+    assert!(rt;
+        has_all(
+            alloc,
+            &mut ReaderSource::new(Cursor::new(b"abc".as_slice())),
+            b"abc"
+        )
+    );
+    assert!(rt; takes_all(&mut WriterSink::new(Vec::new(alloc))));
+    assert!(rt; !takes_all(&mut WriterSink::new(Cursor::new([0u8; 0]))));
+    Ok(())
+}
+
+#[test]
+fn a_pipe_that_nobody_reads_is_told(rt: HostRuntime) -> Result<(), Fail> {
+    let (reader, writer) = pipe(&rt)?;
+    let mut sink = WriterSink::new(writer);
+    assert!(rt; takes_all(&mut sink) && gives_three(ReaderSource::new(reader)));
+    assert!(rt; !takes_all(&mut sink));
+    let why = sink
+        .why(rt.alloc(), "it")?
+        .unwrap_or(String::new(rt.alloc()));
+    assert_eq!(rt; why.as_str(), "it: broken pipe (write)");
+    Ok(())
+}
+
+// Whether the next client is told something, which sends `ask`, or bytes that aren't read.
+fn is_told<R: Clock + Alloc<A = Global>>(rt: &R, listener: &TcpListener, reads: bool) -> bool {
+    let mut door = TcpDoor::new(listener, rt);
+    let Ok((mut input, mut out, time)) = door.next() else {
+        return false;
+    };
+    let is_read = !reads || has_all(rt.alloc(), &mut input, b"ask");
+    let is_written = write_all(&mut out, b"told").is_ok();
+    door.ended(input, out, time, SessionEnd::Closed).is_ok() && is_read && is_written
+}
+
+// Whether a client that sends these bytes is told something through a door, and gets it.
+fn visits<R>(rt: &R, sent: &[u8], reads: bool) -> Result<bool, Fail>
+where
+    R: Net<Listener = TcpListener, Stream = TcpStream> + Clock + Alloc<A = Global>,
+{
+    let listener = TcpListener::bind(rt, "127.0.0.1:0")?;
+    let mut client = TcpStream::connect(rt, listener.local_addr()?)?;
+    client.write_all(sent)?;
+    client.shutdown(Shutdown::Write)?;
+    let is_well = is_told(rt, &listener, reads);
+    let mut told = Vec::new(rt.alloc());
+    client.read_to_end(&mut told)?;
+    Ok(is_well && told.as_slice() == b"told".as_slice())
+}
+
+// Input that isn't read doesn't cost a client its replies.
+#[test]
+fn a_client_comes_in_through_a_door(rt: HostRuntime) -> Result<(), Fail> {
+    let unread = vec![in rt.alloc(); 0u8; 40_000]?;
+    assert!(rt; visits(&rt, b"ask", true)?);
+    assert!(rt; visits(&rt, unread.as_slice(), false)?);
+    Ok(())
+}
+
+// What the source of a client answers to two reads, where the client sends these bytes and then keeps silent.
+fn two_reads<R>(rt: &R, idle: Duration, sent: &[u8]) -> Result<[Result<usize, Failed>; 2], Fail>
+where
+    R: Net<Listener = TcpListener, Stream = TcpStream> + Clock + Alloc<A = Global>,
+{
+    let listener = TcpListener::bind(rt, "127.0.0.1:0")?;
+    let mut client = TcpStream::connect(rt, listener.local_addr()?)?;
+    let patience = Patience {
+        begun: Duration::from_millis(50),
+        idle,
+    };
+    let mut door = TcpDoor::with_patience(&listener, rt, patience);
+    let (mut input, _out, _time) = door.next()?;
+    client.write_all(sent)?;
+    let mut buffer = [0u8; 64];
+    Ok([input.take(&mut buffer), input.take(&mut buffer)])
+}
+
+#[test]
+fn a_client_that_keeps_silent_is_given_up(rt: HostRuntime) -> Result<(), Fail> {
+    let start = Instant::now(&rt)?;
+    let (long, short) = (Duration::from_secs(30), Duration::from_millis(300));
+    let reads = two_reads(&rt, long, &[0, 0, 0])?;
+    assert!(rt; matches!(reads, [Ok(3), Err(Failed)]));
+    assert!(rt; start.elapsed(&rt)? < Duration::from_secs(15));
+    let start = Instant::now(&rt)?;
+    let reads = two_reads(&rt, short, &[0, 0, 0, 5, 1])?;
+    assert!(rt; matches!(reads, [Ok(5), Err(Failed)]));
+    assert!(rt; start.elapsed(&rt)? >= short);
+    Ok(())
+}
+
+#[test]
+fn a_door_asks_its_listener_again(rt: HostRuntime) -> Result<(), Fail> {
+    let listener = TcpListener::bind(&rt, "127.0.0.1:0")?;
+    listener.set_nonblocking(true)?;
+    let address = listener.local_addr()?;
+    let mut door = TcpDoor::new(&listener, &rt);
+    let (is_given, connected) = thread::join(
+        &rt,
+        || door.next().is_ok(),
+        || {
+            thread::sleep(&rt, Duration::from_millis(250));
+            TcpStream::connect(&rt, address).is_ok()
+        },
+    );
+    assert!(rt; is_given && connected);
+    Ok(())
+}
+
+#[test]
+fn a_second_passes_between_samples(rt: HostRuntime) -> Result<(), Fail> {
+    let mut clock = SystemClock::new(&rt);
+    let pace = Pace::new(&rt);
+    let start = Instant::now(&rt)?;
+    pace.turn(0, 1);
+    pace.turn(LOGGER, 0);
+    let first = pcp_outside::Clock::now(&mut clock)?;
+    pace.turn(LOGGER, 1);
+    assert!(rt; start.elapsed(&rt)? >= Duration::from_secs(1));
+    assert!(rt; first.is_some() && first < pcp_outside::Clock::now(&mut clock)?);
+    Ok(())
+}
 
 fn disk_at<'a, R: Files<File = File>>(
     alloc: Global,

@@ -1,24 +1,17 @@
-//! Clients that come in over loopback.
+//! Clients that come in over loopback; and doors in memory, with calls of the source, of the sink and of the doors that fail.
+use crate::shared::{ADDS, BY_TURNS, HITS, Held, is_served, words_of};
 use pcp_base::List;
-use pcp_memory::{MemSink, SureSource};
-use pcp_outside::Turn;
-use pcp_system::TcpDoor;
+use pcp_memory::{MemDoor, MemSink, MemSource};
+use pcp_outside::{Free, Turn};
 use pm_serving::run_serve;
 use std::alloc::{Alloc, AllocError, Global};
 use std::io::{Read, Write};
 use std::net::{Net, Shutdown, SocketAddr, TcpListener, TcpStream};
 use std::sync::Wait;
-use std::sync::atomic::{AtomicBool, AtomicU64, Ordering};
 use std::test::Fail;
 use std::thread::Threads;
-use std::time::{Clock, Duration};
+use std::time::Clock;
 use std::{io, thread};
-
-const SCRIPT: &[u8] = b"image D\nmmv 1 5 0 0 1\nindom 1 - -\ninstance 1 0 \"a\"\n\
-metric per 4 u32 counter 00100000 1 - -\nvalue 4 0 3\nend\nregion app D 64 3\nstart\n";
-
-// What a writer of its region does.
-const STEPS: &[u8] = b"attach app 0\nadd app 0 4 0 5\ndetach app 0\n";
 
 // CREDS, then PROFILE, FETCH, DESC_REQ, INSTANCE_REQ, PMNS_NAMES, PMNS_CHILD and PMNS_TRAVERSE.
 const ASKED: &[u8] =
@@ -56,87 +49,6 @@ const KNOWN: &[u8] =
     b"\x00\x00\x00\x14\x00\x00\x70\x0c\x00\x00\x00\x00\x00\x00\x00\x01\x01\x02\x00\x00\x00\x00\x00\x10\
 \x00\x00\x70\x04\x00\x00\x00\x00\x11\x80\x04\x04";
 
-// How many clients come in: two, one after the other or beside each other.
-const WORDS: [&str; 2] = ["serve", "2"];
-
-// Holds each step of a writer behind its first one until as many clients were answered, and a client's question until the step was
-// reached, each for so many milliseconds, and tells whether one came too late.
-#[derive(Drop)]
-struct Held<'a, R: Clock> {
-    rt: &'a R,
-    reached: AtomicU64,
-    answered: AtomicU64,
-    is_late: AtomicBool,
-}
-
-impl<'a, R: Clock> Held<'a, R> {
-    fn new(rt: &'a R) -> Self {
-        Held {
-            rt,
-            reached: AtomicU64::new(0),
-            answered: AtomicU64::new(0),
-            is_late: AtomicBool::new(false),
-        }
-    }
-
-    fn wait(&self, count: &AtomicU64, least: u64) {
-        for _ in 0..10_000u32 {
-            if count.load(Ordering::SeqCst) >= least || self.is_late.load(Ordering::SeqCst) {
-                return;
-            }
-            thread::sleep(self.rt, Duration::from_millis(1));
-        }
-        self.is_late.store(true, Ordering::SeqCst);
-    }
-}
-
-impl<'a, R: Clock> Turn for Held<'a, R> {
-    fn turn(&self, _who: u32, step: u64) {
-        self.reached.store(step, Ordering::SeqCst);
-        self.wait(&self.answered, step);
-    }
-}
-
-// The call alone, over four doors of a listener: whoever calls this has nothing to do with its contract.
-fn serve_four<'a, R: Threads + Wait + Clock + Alloc<A = Global> + Send + Sync>(
-    rt: &'a R,
-    alloc: Global,
-    listener: &'a TcpListener,
-    words: &[String],
-    input: &mut SureSource,
-    out: &mut MemSink,
-    turn: &Held<'_, R>,
-) -> u8 {
-    let mut doors = [
-        TcpDoor::new(listener, rt),
-        TcpDoor::new(listener, rt),
-        TcpDoor::new(listener, rt),
-        TcpDoor::new(listener, rt),
-    ];
-    let mut served = None;
-    run_serve(rt, alloc, words, input, out, &mut doors, turn, &mut served)
-}
-
-// Serves two clients of a listener beside these steps, and tells whether that was done and told.
-fn serve_two<R: Threads + Wait + Clock + Alloc<A = Global> + Send + Sync>(
-    rt: &R,
-    alloc: Global,
-    listener: &TcpListener,
-    steps: &[u8],
-    turn: &Held<'_, R>,
-) -> Result<bool, AllocError> {
-    let mut words = Vec::new(alloc);
-    for word in WORDS {
-        words.push(word.to_string(alloc)?)?;
-    }
-    let mut script = SCRIPT.to_vec(alloc)?;
-    script.extend_from_slice(steps)?;
-    let mut input = SureSource::new(List::from_vec(script));
-    let mut out = MemSink::new(alloc, List::empty(alloc));
-    let status = serve_four(rt, alloc, listener, &words, &mut input, &mut out, turn);
-    Ok(status == 0 && out.bytes() == b"served 2\n".as_slice())
-}
-
 // Sends all requests, and tells whether all replies come, with this value.
 fn ask_all<R: Net<Stream = TcpStream>>(
     rt: &R,
@@ -165,11 +77,11 @@ fn ask_live<R: Net<Stream = TcpStream> + Clock>(
     held: &Held<'_, R>,
 ) -> io::Result<bool> {
     let mut is_told = true;
-    for (step, value) in [(1, 3), (2, 8)] {
-        held.wait(&held.reached, step);
+    for (step, value) in [(0, 3), (1, 8)] {
+        held.turn(0, step);
         is_told &= ask_all(rt, alloc, address, value)?;
-        held.answered.store(step, Ordering::SeqCst);
     }
+    held.turn(0, 2);
     Ok(is_told)
 }
 
@@ -217,8 +129,9 @@ fn ask<R: Net<Stream = TcpStream> + Clock>(
     }
 }
 
-// Whether two clients are answered beside these steps, none of which is too late, and the call tells that it served them.
-fn is_served<R>(rt: &R, alloc: Global, steps: &[u8]) -> Result<bool, Fail>
+// Whether two clients are answered beside these steps, one after the other or beside each other, none of which is too late, and the
+// call tells that it served them.
+fn are_answered<R>(rt: &R, alloc: Global, steps: &[u8]) -> Result<bool, Fail>
 where
     R: Net<Listener = TcpListener, Stream = TcpStream>
         + Threads
@@ -228,20 +141,20 @@ where
         + Send
         + Sync,
 {
-    let held = Held::new(rt);
+    let held = Held::new(rt, &BY_TURNS);
     let listener = TcpListener::bind(rt, "127.0.0.1:0")?;
     let address = listener.local_addr()?;
     let (is_told, is_done) = thread::join(
         rt,
         || ask(rt, alloc, address, steps, &held),
-        || serve_two(rt, alloc, &listener, steps, &held),
+        || is_served(rt, &listener, "serve 2", steps, b"served 2\n", &held),
     );
-    Ok(is_told? && is_done? && !held.is_late.load(Ordering::SeqCst))
+    Ok(is_told? && is_done? && held.is_well())
 }
 
 #[test]
 fn two_sessions(rt: HostRuntime) -> Result<(), Fail> {
-    assert!(rt; is_served(&rt, rt.alloc(), b"")?);
+    assert!(rt; are_answered(&rt, rt.alloc(), b"")?);
     Ok(())
 }
 
@@ -249,6 +162,66 @@ fn two_sessions(rt: HostRuntime) -> Result<(), Fail> {
 // that, by what it added.
 #[test]
 fn served_live(rt: HostRuntime) -> Result<(), Fail> {
-    assert!(rt; is_served(&rt, rt.alloc(), STEPS)?);
+    assert!(rt; are_answered(&rt, rt.alloc(), ADDS)?);
+    Ok(())
+}
+
+// Which calls of the source, of the sink and of each door fail, and the status and the output that come of it. The script comes by the
+// first call of the source, and its end by the second one; any of the four doors may give the one connection.
+const FAULTS: [(&[u64], &[u64], &[u64], u8, &[u8]); 5] = [
+    (&[], &[], &[], 0, b"served 1\n"),
+    (&[1], &[], &[], 3, b"read fault\n"),
+    (&[2], &[], &[], 3, b"read fault\n"),
+    (&[], &[1], &[], 4, b""),
+    (&[], &[], &[1], 21, b"accept fault\n"),
+];
+
+// A door of one connection, over which nothing comes.
+fn door_of(alloc: Global, fails: &[u64]) -> Result<MemDoor, AllocError> {
+    let mut connections = Vec::new(alloc);
+    connections.push((List::empty(alloc), List::empty(alloc)))?;
+    let fails = List::from_vec(fails.to_vec(alloc)?);
+    Ok(MemDoor::new(alloc, List::from_vec(connections), fails))
+}
+
+// The call alone, over doors in memory: whoever calls this has nothing to do with its contract.
+fn run<R: Threads + Wait + Alloc<A = Global> + Sync>(
+    rt: &R,
+    words: &[String],
+    input: &mut MemSource,
+    out: &mut MemSink,
+    doors: &mut [MemDoor; 4],
+) -> u8 {
+    let mut served = None;
+    run_serve(rt, rt.alloc(), words, input, out, doors, &Free, &mut served)
+}
+
+// What the call answers and writes where these calls fail.
+fn is_told<R: Threads + Wait + Alloc<A = Global> + Sync>(
+    rt: &R,
+    fault: &(&[u64], &[u64], &[u64], u8, &[u8]),
+) -> Result<bool, AllocError> {
+    let alloc = rt.alloc();
+    let (source_fails, sink_fails, door_fails, status, told) = fault;
+    let words = words_of(alloc, "serve 1")?;
+    let script = List::from_vec(HITS.to_vec(alloc)?);
+    let mut input = MemSource::new(script, List::from_vec(source_fails.to_vec(alloc)?));
+    let mut out = MemSink::new(alloc, List::from_vec(sink_fails.to_vec(alloc)?));
+    let mut doors = [
+        door_of(alloc, door_fails)?,
+        door_of(alloc, door_fails)?,
+        door_of(alloc, door_fails)?,
+        door_of(alloc, door_fails)?,
+    ];
+    let answer = run(rt, &words, &mut input, &mut out, &mut doors);
+    Ok(answer == *status && out.bytes() == *told)
+}
+
+#[test]
+fn outside_fails(rt: HostRuntime) -> Result<(), Fail> {
+    for fault in &FAULTS {
+        let is_told = is_told(&rt, fault)?;
+        assert!(rt; is_told, "{}", fault.3);
+    }
     Ok(())
 }

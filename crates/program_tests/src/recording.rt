@@ -1,18 +1,18 @@
 //! Recordings of a script whose two writers add to the counters of two regions.
 ghost use Rattle.fetch_engine.specs.Servers.{IsSeated};
 
+use crate::shared::{Held, Hold, words_of};
 use fetch_engine::{Seat, Server};
 use pcp_base::{Body, FileId, List, Pmid, Stamp, ValueSet};
 use pcp_memory::{ListClock, MemDisk, MemSink, MemSource};
-use pcp_outside::{Disk, LOGGER, Turn};
+use pcp_outside::{Disk, LOGGER};
 use pm_recording::run_record;
 use profile_filter::Profile;
 use std::alloc::{AllocError, Global};
 use std::sync::Wait;
-use std::sync::atomic::{AtomicBool, AtomicU64, Ordering};
 use std::test::Fail;
-use std::thread::{self, Threads};
-use std::time::{Clock, Duration};
+use std::thread::Threads;
+use std::time::Clock;
 
 // Two regions, each with a counter that opens on 7.
 const HEAD: &[u8] =
@@ -25,11 +25,8 @@ const STEPS: &[u8] =
     b"attach app 0\nattach web 0\nadd app 0 2 - 5\nadd web 0 2 - 5\nadd app 0 2 - 5\ndetach app 0\ndetach web 0\n\
 attach web 1\nadd web 1 2 - 5\ndetach web 1\n";
 
-// Who goes on with which step only once who was called for which: the first two writers are 0 and 1.
-type Hold = (u32, u64, u32, u64);
-
-// Both writers stand before their adds until the first sample was taken. Then each sample waits for an add, and the next add for the
-// sample; the last two adds stand before the last sample that waits.
+// The first two writers are 0 and 1. Both stand before their adds until the first sample was taken. Then each sample waits for an add,
+// and the next add for the sample; the last two adds stand before the last sample that waits.
 const BESIDE: [Hold; 10] = [
     (LOGGER, 0, 0, 2),
     (LOGGER, 0, 1, 1),
@@ -45,63 +42,6 @@ const BESIDE: [Hold; 10] = [
 
 // What the items of that recording show of both counters.
 const SHOWN: [[u8; 2]; 5] = [[7, 7], [12, 7], [12, 12], [17, 17], [17, 17]];
-
-// Holds steps, each for so many milliseconds, counts the calls of each writer and the logger, and tells whether one came out of its
-// order or waited too long.
-#[derive(Drop)]
-struct Held<'a, R: Clock> {
-    rt: &'a R,
-    holds: &'static [Hold],
-    first: AtomicU64,
-    second: AtomicU64,
-    logger: AtomicU64,
-    fails: AtomicBool,
-}
-
-impl<'a, R: Clock> Held<'a, R> {
-    fn new(rt: &'a R, holds: &'static [Hold]) -> Self {
-        Held {
-            rt,
-            holds,
-            first: AtomicU64::new(0),
-            second: AtomicU64::new(0),
-            logger: AtomicU64::new(0),
-            fails: AtomicBool::new(false),
-        }
-    }
-
-    // How often this one was called.
-    fn calls(&self, who: u32) -> &AtomicU64 {
-        match who {
-            LOGGER => &self.logger,
-            0 => &self.first,
-            _ => &self.second,
-        }
-    }
-
-    fn wait(&self, who: u32, step: u64) {
-        for _ in 0..10_000u32 {
-            if self.calls(who).load(Ordering::SeqCst) > step || self.fails.load(Ordering::SeqCst) {
-                return;
-            }
-            thread::sleep(self.rt, Duration::from_millis(1));
-        }
-        self.fails.store(true, Ordering::SeqCst);
-    }
-}
-
-impl<'a, R: Clock> Turn for Held<'a, R> {
-    fn turn(&self, who: u32, step: u64) {
-        if self.calls(who).fetch_add(1, Ordering::SeqCst) != step {
-            self.fails.store(true, Ordering::SeqCst);
-        }
-        for (held, at, other, call) in self.holds {
-            if *held == who && *at == step {
-                self.wait(*other, *call);
-            }
-        }
-    }
-}
 
 // A recording: its words, the steps of its script, the seconds of its clock, which calls of each object fail, whether the archive is a
 // label that was begun, which recovery cuts off, and how many calls change a file.
@@ -143,15 +83,6 @@ struct Ran {
     moments: usize,
     left: Option<[u32; 2]>,
     items: [[u8; 2]; 5],
-}
-
-// The words of a line.
-fn words_of(alloc: Global, line: &str) -> Result<Vec<String>, AllocError> {
-    let mut words = Vec::new(alloc);
-    for word in line.split(' ') {
-        words.push(word.to_string(alloc)?)?;
-    }
-    Ok(words)
 }
 
 // An input of the head and the steps.
@@ -263,7 +194,7 @@ fn record<R: Threads + Wait + Clock + Sync>(
     Ok(Ran {
         status,
         is_told: out.bytes() == told,
-        is_held: !held.fails.load(Ordering::SeqCst),
+        is_held: held.is_well(),
         moments: disk.moments(),
         left,
         items: items_in(disk.bytes(FileId::Volume(0))),
