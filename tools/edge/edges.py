@@ -298,8 +298,13 @@ def try_sources(folder):
     ]:
         assert run(base, "extract", *words) == (1, b"usage %d\n" % found), (base, words)
     assert {base: files(base) for base in (first, second)} == before
-    # a source that isn't sound, or is no archive, is named, and leaves no archive
-    fresh = os.path.join(folder, "fresh")
+
+
+def try_faulty_sources(folder):
+    """A source that isn't sound, or is no archive, is named, and leaves no archive."""
+    first, second, fresh = (os.path.join(folder, name) for name in ("first", "second", "fresh"))
+    for base, at in ((first, "100"), (second, "101")):
+        assert run(base, "once", at, "0", "app", given=content(IMAGE)) == (0, b"logged 1\n")
     os.truncate(second + ".meta", 140)
     assert run(fresh, "extract", first, second, "1048576") == (10, b"source 2\nunsound boundary 0 meta 132 184\n")
     with open(second + ".meta", "r+b") as it:
