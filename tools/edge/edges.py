@@ -1,9 +1,9 @@
 #!/usr/bin/env python3
 """Tries the program `pcp` as the system runs it: descriptors that are closed, two programs at one archive, files of other kinds, odd
-names, clients that keep silent, a terminal that is stopped, and signals. usage: edges.py PROGRAM [NAME ..]
+names, clients that keep silent, a terminal that is told, stopped or gone, signals, the help, and the words of each command line. usage: edges.py PROGRAM [NAME ..]
 
-Each function `try_NAME` gets a folder of its own, and fails by an assertion. It takes half a minute in all."""
-import fcntl, os, pty, resource, select, signal, socket, struct, subprocess, sys, tempfile, time
+Each function `try_NAME` gets a folder of its own, and fails by an assertion. It takes a minute and a half in all."""
+import fcntl, os, pty, random, re, resource, select, shutil, signal, socket, struct, subprocess, sys, tempfile, time
 from concurrent.futures import ThreadPoolExecutor
 
 HERE = os.path.dirname(os.path.realpath(__file__))
@@ -15,6 +15,7 @@ TICKS = b"".join(b"tick %d 0\n" % at for at in range(100, 105))
 
 
 def content(path):
+    """All bytes of a file."""
     with open(path, "rb") as it:
         return it.read()
 
@@ -216,10 +217,11 @@ def try_odd_names(folder):
 
 
 def connect(port):
+    """A connection to a server that may still be starting."""
     end = time.monotonic() + 60
     while True:
         try:
-            return socket.create_connection(("127.0.0.1", port), 30)
+            return socket.create_connection(("127.0.0.1", port), 60)
         except ConnectionRefusedError:
             assert time.monotonic() < end, "nobody listens"
             time.sleep(0.02)
@@ -232,6 +234,7 @@ def served_script():
 
 
 def serving(port, count, given=None, **how):
+    """A server of the script's regions."""
     child = start("x", "serve", str(port), str(count), **how)
     child.stdin.write(given or served_script())
     child.stdin.close()
@@ -239,9 +242,15 @@ def serving(port, count, given=None, **how):
 
 
 def free_port():
-    with socket.socket() as it:
-        it.bind(("127.0.0.1", 0))
-        return it.getsockname()[1]
+    """A port that nobody has, below those that the system gives out by itself, so that nobody else is given it meanwhile."""
+    while True:
+        port = random.randrange(10240, 32768)
+        with socket.socket() as it:
+            try:
+                it.bind(("127.0.0.1", port))
+                return port
+            except OSError:
+                pass
 
 
 HELLO = struct.pack(">IIIII", 20, 0x700C, 0, 1, 0x01020000)
@@ -289,8 +298,13 @@ def try_sources(folder):
     ]:
         assert run(base, "extract", *words) == (1, b"usage %d\n" % found), (base, words)
     assert {base: files(base) for base in (first, second)} == before
-    # a source that isn't sound, or is no archive, is named, and leaves no archive
-    fresh = os.path.join(folder, "fresh")
+
+
+def try_faulty_sources(folder):
+    """A source that isn't sound, or is no archive, is named, and leaves no archive."""
+    first, second, fresh = (os.path.join(folder, name) for name in ("first", "second", "fresh"))
+    for base, at in ((first, "100"), (second, "101")):
+        assert run(base, "once", at, "0", "app", given=content(IMAGE)) == (0, b"logged 1\n")
     os.truncate(second + ".meta", 140)
     assert run(fresh, "extract", first, second, "1048576") == (10, b"source 2\nunsound boundary 0 meta 132 184\n")
     with open(second + ".meta", "r+b") as it:
@@ -323,7 +337,7 @@ def try_begun_pdus(folder):
     begun.sendall(HELLO + HELLO[:7])
     heard(begun)
     took = time.monotonic() - began
-    assert 4.5 < took < 30, took
+    assert 4.5 < took < 60, took
     silent.sendall(HELLO)
     silent.shutdown(socket.SHUT_WR)
     assert len(heard(silent)) == 16
@@ -359,6 +373,7 @@ def try_last_replies(folder):
 
 
 def pulling(base, port, samples=1):
+    """A pull of one metric."""
     return start(base, "pull", str(port), str(samples), "1048576", "mmv.app.hits")
 
 
@@ -396,8 +411,21 @@ def try_begun_replies(folder):
         began = time.monotonic()
         client.sendall(struct.pack(">IIII", 16, 0x7000, 0, 0)[:7])
         told, took = ended(child), time.monotonic() - began
-        assert told == (3, b"read fault\n") and 4.5 < took < 30, (told, took)
+        assert told == (3, b"read fault\n") and 4.5 < took < 50, (told, took)
         client.close()
+
+
+def shown_to_end(ours):
+    """All that a terminal was shown whose other end is closed."""
+    shown = b""
+    while True:
+        try:
+            more = os.read(ours, 65536)
+        except OSError:
+            return shown
+        if not more:
+            return shown
+        shown += more
 
 
 def on_terminal(words, given, folder, seconds, stopped=False):
@@ -412,10 +440,8 @@ def on_terminal(words, given, folder, seconds, stopped=False):
     status = child.wait(seconds)
     if stopped:
         os.write(ours, b"\x11")
-    shown = b""
-    while select.select([ours], [], [], 1)[0]:
-        shown += os.read(ours, 65536)
     os.close(theirs)
+    shown = shown_to_end(ours)
     os.close(ours)
     return status, shown.replace(b"\r\n", b"\n")
 
@@ -444,6 +470,228 @@ def try_stopped_terminal(folder):
     assert status == 0 and shown == b"sample 1 of 2: results 0, bytes 0\nsample 2 of 2: results 1, bytes 488\n", shown
 
 
+# The help, whole: what the program is for, how it is begun, each command with its words and what it does, and what BASE is.
+ABOUT = "Regions of memory mapped values, sessions with clients, and archives of what was logged"
+STARTS = "Usage: pcp BASE COMMAND\n       pcp --help"
+COMMANDS = {
+    "once SEC USEC FILE": "Log the values of an image as one result",
+    "replay VOLUME": "Run a script, line by line, and log its ticks",
+    "make NUMBER TICKS VOLUME": "Run the script that a number makes, and log its ticks",
+    "record SAMPLES VOLUME": "Run a script's writers, and log a sample each second",
+    "serve PORT COUNT": "Serve a script's regions to clients",
+    "pull PORT SAMPLES VOLUME NAME..": "Ask a server for metrics, and log a sample each second",
+    "extract BASE1 BASE2 VOLUME": "Log the merge of two other archives",
+    "export BASE2": "Write an archive again at another base, as stock tools show it whole",
+    "recover": "Mend an archive that was stopped anywhere",
+    "dump": "Print the label and all items of an archive",
+    "at SEC USEC": "Print the last item not after a moment",
+    "range SEC USEC SEC USEC": "Print the items between two moments",
+    "value SEC USEC NAME": "Print the values that a metric last had at a moment",
+    "watch SEC USEC SEC USEC": "Print which rules hold at each sample between two moments",
+    "summary WORKERS SEC USEC SEC USEC": "Print what an archive's values come to between two moments",
+    "info": "Print the descriptions of an archive",
+    "check": "Tell whether an archive is sound, or where it isn't",
+    "retire N": "Empty the volumes of an archive below a number",
+    "mmv-make": "Make the image of a layout text",
+    "mmv-dump": "Print an image as a layout text",
+    "mmv-lift": "Make the version 2 image of an image",
+}
+ENDS = "BASE begins the names of the archive's files: BASE.meta, BASE.index, BASE.0 and so on."
+
+# A good word for each of the help's words, and bad ones. Any word is a base, and the name that `value` asks for.
+GOOD = dict(SEC="100", USEC="0", FILE="app", VOLUME="1048576", NUMBER="7", TICKS="2", SAMPLES="2", PORT="44321", COUNT="1", WORKERS="3", N="0", NAME="a..b")
+GOOD |= {"NAME..": "mmv.app.hits", "BASE1": "first", "BASE2": "second"}
+BAD = {
+    "SEC": ("2147483648", "-1", "", "1x"),
+    "USEC": ("1000000", "+0"),
+    "FILE": ("9app", "a.b", "", "a" * 64, b"\xff"),
+    "VOLUME": ("1023", "1073741825", b"\xff"),
+    "NUMBER": ("18446744073709551616", "x"),
+    "TICKS": ("0", "100001"),
+    "SAMPLES": ("0", "100001"),
+    "PORT": ("0", "65536", "x", b"\xff"),
+    "COUNT": ("0", "100001"),
+    "WORKERS": ("0", "65"),
+    "N": ("10001", "-1"),
+    "NAME..": ("a..b", ".a", "a" * 401, b"\xff"),
+}
+UNCOUNTED = ("PORT", "BASE1", "BASE2")
+
+
+def try_help(folder):
+    """The help is whole: it names each command with its words, and is written for a lone `--help` alone."""
+    rows = "".join(f"  {words:33}  {does}\n" for words, does in COMMANDS.items())
+    text = f"{ABOUT}\n\n{STARTS}\n\nCommands:\n{rows}\n{ENDS}\n".encode()
+    told = run("--help", cwd=folder)
+    assert told == (0, text), told
+    for words in (("x", "--help"), ("--help", "--help"), ("-h",), ("help",), ()):
+        told = run(*words, cwd=folder)
+        assert told == (1, b"usage 0\n"), (words, told)
+    told = run("--help", "dump", cwd=folder)
+    assert told == (0, b"archive none\n"), told
+    assert not os.listdir(folder)
+
+
+def faulty(kinds):
+    """The faulty lines of a command whose words are of these kinds, each with the number of its first bad or missing word."""
+    good = [GOOD[kind] for kind in kinds]
+    for at, kind in enumerate(kinds):
+        # (a base or PORT is the program's: it isn't counted, but where it is bad or missing itself)
+        number = 1 + at - (kind not in UNCOUNTED) * sum(it in UNCOUNTED for it in kinds[:at])
+        yield good[:at], number
+        for bad in BAD.get(kind, ()):
+            yield [*good[:at], bad, *good[at + 1 :]], number
+            yield [*good[:at], bad], number
+    if "NAME.." in kinds:
+        yield [*good, "a..b"], 4
+        yield [*good, *["a"] * 64], 67
+    else:
+        yield [*good, "more"], 1 + sum(it not in UNCOUNTED for it in kinds)
+
+
+def try_words(folder):
+    """Each command names its first word that is bad, missing or one too many; then nothing is read, written, connected to or listened at."""
+    count = 0
+    for form in COMMANDS:
+        name, *kinds = form.split(" ")
+        for words, number in faulty(kinds):
+            told = run("arch", name, *words, given=b"unread", cwd=folder)
+            assert told == (1, b"usage %d\n" % number), (name, words, number, told)
+            count += 1
+    for name in ("", "Dump", "dumps", b"\xff"):
+        assert run("arch", name, cwd=folder) == (1, b"usage 0\n"), name
+    assert not os.listdir(folder)
+    return f"ok, {count} faulty lines"
+
+
+def try_crowded_folder(folder):
+    """A run writes its archive into a folder beside 300 other files, and leaves these alone; without the folder it is a fault."""
+    assert run("many/app", "once", "100", "0", "app", given=content(IMAGE), cwd=folder) == (5, b"disk fault\n")
+    assert not os.listdir(folder)
+    many = os.path.join(folder, "many")
+    os.mkdir(many)
+    others = {f"other.{number}": b"x" for number in range(300)}
+    for name, it in others.items():
+        with open(os.path.join(many, name), "wb") as other:
+            other.write(it)
+    assert run("many/app", "once", "100", "0", "app", given=content(IMAGE), cwd=folder) == (0, b"logged 1\n")
+    made = files(os.path.join(many, "app"))
+    sizes = {name: len(it) for name, it in made.items()}
+    assert sizes == {"app.meta": 184, "app.index": 152, "app.0": 172}, sizes
+    assert files(os.path.join(many, "other")) == others and len(os.listdir(many)) == 303
+    assert items(os.path.join(many, "app")) == 1
+
+
+def try_taken_port(folder):
+    """A port that another program listens at is told, and its input isn't waited for; once it is free, clients are served there."""
+    with socket.create_server(("127.0.0.1", 0)) as taken:
+        port = taken.getsockname()[1]
+        child = start("x", "serve", str(port), "1", cwd=folder)
+        told = child.wait(60), child.stdout.read()
+        assert told == (22, b"listen fault\n"), told
+    child = serving(port, 1)
+    client = connect(port)
+    client.sendall(HELLO)
+    client.shutdown(socket.SHUT_WR)
+    assert len(heard(client)) == 16
+    assert child.wait(60) == 0 and child.stdout.read() == b"served 1\n"
+
+
+def status_to(out, *words, given=b""):
+    """The status of a run with this output."""
+    return subprocess.run([PROGRAM, *words], input=given, stdout=out, stderr=subprocess.DEVNULL, timeout=60).returncode
+
+
+def try_failed_outputs(folder):
+    """Where the output fails, since it is full or nobody reads it, the status says so, also of the help; what was logged stands."""
+    base = os.path.join(folder, "arch")
+    run(base, "once", "100", "0", "app", given=content(IMAGE))
+    before, end = files(base), os.pipe()
+    os.close(end[0])
+    with open("/dev/full", "wb") as full, open(end[1], "wb") as unread:
+        for name, out in (("full", full), ("unread", unread)):
+            assert status_to(out, "--help") == 4
+            for words in (("dump",), ("info",), ("check",), ("recover",), ("at", "100", "0"), ("summary", "1", "0", "0", "200", "0")):
+                assert status_to(out, base, *words) == 4, (name, words)
+            assert status_to(out, base, "at", "99", "0") == 11 and status_to(out, base, "nothing") == 1
+            assert files(base) == before, name
+            replayed, recorded = (os.path.join(folder, name + it) for it in ("replayed", "recorded"))
+            assert status_to(out, replayed, "replay", "1048576", given=script(TICKS)) == 4 and items(replayed) == len(TICKS.splitlines())
+            assert status_to(out, recorded, "record", "2", "1048576", given=script()) == 4 and items(recorded) == 2
+
+
+def told_lines(samples, sizes):
+    """What a terminal is told before each sample, where so many bytes are sure before each."""
+    return b"".join(b"sample %d of %d: results %d, bytes %d\n" % (at + 1, samples, at, size) for at, size in enumerate(sizes))
+
+
+def try_progress(folder):
+    """Before each of several samples a terminal is told what is sure; nothing is told of one sample, or where there is no terminal."""
+    # Before the second sample three labels (132 bytes each), a description (52) and a result (40) are sure, and then a result more each time.
+    told = on_terminal(["told", "record", "3", "1048576"], script(), folder, 60)
+    assert told == (0, told_lines(3, (0, 488, 528))), told
+    assert items(os.path.join(folder, "told")) == 3
+    # What was there before isn't counted: here only the two results of this run are.
+    told = on_terminal(["told", "record", "2", "1048576"], script(), folder, 60)
+    assert told == (0, told_lines(2, (0, 40))), told
+    told = on_terminal(["one", "record", "1", "1048576"], script(), folder, 60)
+    assert told == (0, b""), told
+    told = on_terminal(["other", "replay", "1048576"], script(TICKS), folder, 60)
+    assert told == (0, b""), told
+    ran = subprocess.run([PROGRAM, "none", "record", "2", "1048576"], input=script(), capture_output=True, cwd=folder, timeout=60)
+    assert (ran.returncode, ran.stdout, ran.stderr) == (0, b"logged 2\n", b""), ran
+    port = free_port()
+    child = serving(port, 1)
+    status, shown = 17, b""
+    end = time.monotonic() + 60
+    while status == 17 and time.monotonic() < end:
+        status, shown = on_terminal(["pulled", "pull", str(port), "2", "1048576", "mmv.app.hits"], b"", folder, 60)
+    assert (status, shown) == (0, told_lines(2, (0, 488))), (status, shown)
+    assert child.wait(60) == 0
+
+
+def try_gone_terminal(folder):
+    """A terminal that is gone after the first line changes nothing of a recording but what is told."""
+    ours, theirs = pty.openpty()
+    child = start("gone", "record", "3", "1048576", stderr=theirs, cwd=folder)
+    os.close(theirs)
+    child.stdin.write(script())
+    child.stdin.close()
+    shown = b""
+    while b"\n" not in shown:
+        assert select.select([ours], [], [], 60)[0], "no line"
+        shown += os.read(ours, 65536)
+    os.close(ours)
+    assert child.wait(60) == 0 and child.stdout.read() == b"logged 3\n"
+    assert items(os.path.join(folder, "gone")) == 3
+
+
+def calls_of(words, folder):
+    """What a recording writes to descriptors, syncs and waits for, in order, as strace(1) tells it."""
+    log = os.path.join(folder, "log")
+    asked = ["strace", "-f", "-o", log, "-e", "trace=write,fdatasync,clock_nanosleep"]
+    ran = subprocess.run([*asked, PROGRAM, *words], input=script(), stdout=subprocess.DEVNULL, stderr=subprocess.DEVNULL, cwd=folder, timeout=60)
+    assert ran.returncode == 0, ran
+    return re.findall(rb"(?m)^\d+ +(write|fdatasync|clock_nanosleep)\((\w+)", content(log))
+
+
+def try_sure_samples(folder):
+    """A recording syncs what it wrote of a sample before it waits for the next one."""
+    if not shutil.which("strace") or subprocess.run(["strace", "-o", os.devnull, "true"], stderr=subprocess.DEVNULL).returncode:
+        return "skipped, since strace can't be run here"
+    unsure, writes, waits = set(), 0, 0
+    for call, number in calls_of(["arch", "record", "3", "1048576"], folder):
+        if call == b"clock_nanosleep":
+            assert writes and not unsure, (waits, writes, unsure)
+            writes, waits = 0, waits + 1
+        elif call == b"fdatasync":
+            unsure.discard(number)
+        elif number not in (b"1", b"2"):
+            unsure.add(number)
+            writes += 1
+    assert waits == 2 and items(os.path.join(folder, "arch")) == 3, waits
+
+
 def try_signals(folder):
     """SIGINT and SIGTERM end a recording and a server as a crash does: what was made sure stands."""
     for number in (signal.SIGINT, signal.SIGTERM):
@@ -464,6 +712,7 @@ def try_signals(folder):
 
 
 def main():
+    """Runs each function `try_NAME` in a folder of its own, and tells how it ended."""
     global PROGRAM
     PROGRAM = os.path.realpath(sys.argv[1])
     failed = 0

@@ -9,7 +9,7 @@ last whole line of the terminal told results; recovery changes nothing a second 
 seconds or so in all.
 
 A kill isn't a power cut: the system keeps what a program wrote, synced or not. What a power cut leaves is proved over the disk that `docs/PROMISES.md`
-supposes, and `crates/progress_tests` shows that what is told was synced before."""
+supposes, and `tools/edge/edges.py` shows that each sample is synced before the next one is waited for."""
 import os, pty, random, re, select, signal, subprocess, sys, tempfile, time
 from concurrent.futures import ThreadPoolExecutor
 
