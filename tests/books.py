@@ -19,6 +19,7 @@ All that comes is to be asked for, and a source may not change.
 
 Prints each case that differs and a line for each book, and at the end the total; the exit status is 1 where one differs.
 """
+import concurrent.futures
 import glob
 import os
 import resource
@@ -28,6 +29,8 @@ import sys
 import tempfile
 
 LITERALS = ("hex", "text", "line", "kept", "beside", "empty")
+# Where the files of a case stand, if there is such a folder: on a disk each sync of a run would wait.
+MEMORY = "/dev/shm"
 # The label of Meta in the books.
 LABEL = bytes.fromhex("0000008450052602000000010000006400000000ffffffff6c6f63616c686f7374") + bytes(55) + b"UTC" + bytes(37) + bytes.fromhex("00000084")
 
@@ -90,7 +93,7 @@ def split_file(words):
 
 def shown(data):
     """The front of bytes as a text."""
-    return repr(data[:100])[1:] + (" .. %d bytes" % len(data) if len(data) > 100 else "")
+    return repr(data[:100]).lstrip("b") + (" .. %d bytes" % len(data) if len(data) > 100 else "")
 
 
 class Kept:
@@ -429,7 +432,7 @@ def cases_of(rows):
 
 def run_case(program, kept, rows):
     """Why a case differs, or nothing. What it keeps stays for the next ones."""
-    top = tempfile.mkdtemp()
+    top = tempfile.mkdtemp(dir=MEMORY if os.access(MEMORY, os.W_OK) else None)
     try:
         case = Case(program, kept, top)
         place, differs = "", None
@@ -454,34 +457,39 @@ def tried(case, place, row):
 
 
 def run_book(program, path):
-    """Runs a book, and answers how many cases it has and how many of them differ."""
+    """Runs a book, and answers how many cases it has and what is told of each that differs."""
     with open(path, encoding="latin-1") as file:
         front, cases = cases_of(rows_of(file.read()))
     kept = Kept(os.path.dirname(path))
     for row in front:
         _, name, literal = row.split(" ", 2)
         kept.keep(name, kept.read(literal))
-    differ = 0
-    for title, rows in cases:
-        why = run_case(program, kept, rows)
-        if why is not None:
-            differ += 1
-            print("# %s\n   %s" % (title, why), flush=True)
-    print("%s: %d cases, %d differ" % (os.path.basename(path), len(cases), differ), flush=True)
-    return len(cases), differ
+    ends = [(title, run_case(program, kept, rows)) for title, rows in cases]
+    return len(cases), ["# %s\n   %s" % (title, why) for title, why in ends if why is not None]
+
+
+def run_books(program, paths):
+    """Runs books, as many at a time as there are processors, and answers how many cases they have and how many of them differ."""
+    cases, differ = 0, 0
+    with concurrent.futures.ThreadPoolExecutor(os.cpu_count()) as workers:
+        for path, (count, told) in zip(paths, workers.map(lambda path: run_book(program, path), paths)):
+            cases, differ = cases + count, differ + len(told)
+            for why in told:
+                print(why)
+            print("%s: %d cases, %d differ" % (os.path.basename(path), count, len(told)), flush=True)
+    return cases, differ
 
 
 def main():
     """Runs the books."""
     if len(sys.argv) < 2:
         sys.exit(__doc__)
-    program = os.path.realpath(sys.argv[1])
     beside = os.path.dirname(os.path.realpath(__file__))
-    counts = [run_book(program, path) for path in sys.argv[2:] or sorted(glob.glob(os.path.join(beside, "books", "*.cases")))]
-    cases, differ = (sum(count) for count in zip(*counts))
+    books = sys.argv[2:] or sorted(glob.glob(os.path.join(beside, "books", "*.cases")))
+    cases, differ = run_books(os.path.realpath(sys.argv[1]), books)
     spent = sum(sum(resource.getrusage(who)[:2]) for who in (resource.RUSAGE_SELF, resource.RUSAGE_CHILDREN))
-    print("%d books, %d cases, %d differ, %.0f processor seconds" % (len(counts), cases, differ, spent))
-    sys.exit(1 if differ else 0)
+    print("%d books, %d cases, %d differ, %.0f processor seconds" % (len(books), cases, differ, spent))
+    sys.exit(1 if differ or not cases else 0)
 
 
 if __name__ == "__main__":
