@@ -5,7 +5,7 @@ behind it. usage: refusals.py PROGRAM [COMMAND ..]
 A growth is a call by which a process asks the C library for memory (malloc, calloc, realloc and the like). A small library, which cc
 compiles and the loader puts in front of the C library's (LD_PRELOAD), counts them and refuses one. All COMMANDS are tried if none is
 named. The inputs are the repository's own: the sample image, `docs/counter.script`, and the stored run of two regions in
-`crates/cases/data`, whose output and files the program has to give byte for byte where nothing is refused.
+`tests/books`, whose output and files the program has to give byte for byte where nothing is refused.
 
 A run to which memory was refused must be told: status 9, and of its output a front alone, without a last line of its own; or 5 and the line
 `disk fault`, where the files' own object wanted the memory, as for a file's name; or it is whole, with the output and the files of
@@ -85,13 +85,13 @@ def content(*path):
 IMAGE = content("crates", "pcp", "stdin")
 COUNTER = content("docs", "counter.script")
 TICKS = COUNTER + b"".join(b"tick %d 0\n" % at for at in range(100, 103)) + b"flush\ntick 103 0\n"
-SCRIPT = content("crates", "cases", "data", "two_regions.script")
+SCRIPT = content("tests", "books", "two_regions.script")
 LAYOUT = SCRIPT.split(b"image X\n")[1].split(b"end\n")[0]
 ENDS = ("meta", "index", "0", "1")
-TWO = {"arch." + end: content("crates", "cases", "data", "two_regions." + end) for end in ENDS}
+TWO = {"arch." + end: content("tests", "books", "two_regions." + end) for end in ENDS}
 TORN = {name: held[:-5] if name == "arch.1" else held + b"\0\0\1" if name == "arch.index" else held for name, held in TWO.items()}
 # The files that the program has to make of the script, and what it says.
-KNOWN = {"replay 1024": (content("crates", "cases", "data", "two_regions.out"), TWO)}
+KNOWN = {"replay 1024": (content("tests", "books", "two_regions.out"), TWO)}
 
 
 class Bench:
