@@ -29,7 +29,7 @@ Of `pull`: the input is what the server replies.
   file FILE LITERAL, file FILE length N, files empty, files same (as before the run)
 Where the status is 1 the server has heard of nobody. What differs is printed, and a line for each book; the exit status is 1 where a case differs.
 """
-import os, select, signal, socket, struct, subprocess, sys, tempfile, threading, time
+import itertools, os, random, select, signal, socket, struct, subprocess, sys, tempfile, threading, time
 from concurrent.futures import ThreadPoolExecutor
 
 HERE = os.path.dirname(os.path.realpath(__file__))
@@ -37,6 +37,8 @@ PROGRAM = ""
 PAUSE = 0.0002
 SETTLED = 0.3
 PATIENCE = 20
+# Ports that the system gives to nobody by itself.
+PORTS = itertools.count(random.randrange(10000, 30000))
 ESCAPES = {"n": b"\n", "\\": b"\\"}
 
 
@@ -173,8 +175,8 @@ class Case:
                 self.step(at, *line.partition(" ")[::2])
             line = "at its end"
             self.answer.end()
-        except (Differs, OSError, subprocess.TimeoutExpired) as why:
-            return f"{line[:150]}: {why}"
+        except (Differs, OSError, subprocess.TimeoutExpired, LookupError, ValueError) as why:
+            return f"{line[:150]}: {type(why).__name__}: {why}"
         finally:
             self.end()
         return None
@@ -220,6 +222,17 @@ def send_pieces(link, content, most):
     except (BrokenPipeError, ConnectionResetError):
         return False
     return True
+
+
+def free_port():
+    """A port of 127.0.0.1 at which nobody listens."""
+    for port in PORTS:
+        with socket.socket() as tried:
+            try:
+                tried.bind(("127.0.0.1", port))
+            except OSError:
+                continue
+            return port
 
 
 def take(link):
@@ -339,9 +352,7 @@ class Session(Case):
 
     def listening(self, count):
         """The program that serves so many sessions, and its port."""
-        with socket.socket() as free:
-            free.bind(("127.0.0.1", 0))
-            port = free.getsockname()[1]
+        port = free_port()
         path = os.path.join(self.folder, "script")
         with open(path, "wb") as it:
             it.write(self.script)
@@ -397,7 +408,7 @@ class Server(threading.Thread):
     """A server that the program asks: it replies what the case has, and keeps what it was asked."""
 
     def __init__(self, case, wanted):
-        super().__init__()
+        super().__init__(daemon=True)
         self.listener = socket.create_server(("127.0.0.1", 0))
         self.port = self.listener.getsockname()[1]
         self.case, self.faults, self.most, self.wanted = case, dict(case.faults), case.most, wanted
