@@ -25,7 +25,7 @@ use Rattle.pm_runs.specs.commands.recover.{IsMendedSide}
 use Rattle.pm_runs.specs.commands.replay.{replaying}
 use Rattle.pm_runs.specs.commands.retire as retire
 use Rattle.pm_runs.specs.commands.retire.{IsCurrent, IsLive, IsLiveAs, IsLiveFound, IsRetiredSide}
-use Rattle.pm_runs.proofs.Refused.{refused_is_none}
+use Rattle.pm_words.proofs.Unreadable.{refused_is_none}
 use Rattle.pm_tasks.proofs.Lookings.{at_fits, check_fits, dump_fits, info_fits, range_fits, value_fits}
 use Rattle.pm_commands.specs.Causes.{Asks, Cause, CauseAt}
 use Rattle.pm_commands.specs.Ends.{Ends, HasBegun, HasRun}

@@ -47,9 +47,9 @@ fn a_known_layout_is_refused_beside_a_change_and_behind_it(rt: HostRuntime) {
     let crossed = read_value(&region, &mut reader, 5);
     let _ = change.finish(&region);
     let newer = read_value(&region, &mut reader, 5);
-    assert_eq!(&rt; crossed, Err(ValueFault::Again { first: 5, last: 6 }));
-    assert_eq!(&rt; newer, Err(ValueFault::Newer { found: 6 }));
-    assert_eq!(&rt; read_value(&region, &mut reader, 6), Ok(1 << 32));
+    assert!(&rt; matches!(crossed, Err(ValueFault::Again { first: 5, last: 6 })));
+    assert!(&rt; matches!(newer, Err(ValueFault::Newer { found: 6 })));
+    assert!(&rt; matches!(read_value(&region, &mut reader, 6), Ok(0x1_0000_0000)));
 }
 
 fn needs_send<T: Send>() {}
