@@ -12,8 +12,8 @@ use case_book::{Answer, Words, text_of};
 use case_outside::Drive;
 use logger_core::{LogFault, Logger};
 use pcp_base::{List, NoMemory, PmResult, Stamp};
-use pcp_model::Label;
 use pcp_memory::MemDisk;
+use pcp_model::Label;
 use result_form::fits;
 use std::alloc::Global;
 

@@ -1,6 +1,6 @@
-//! The outside of a program of Performance Co-Pilot in memory, for tests: an object for each trait of `pcp_outside`, proved
-//! against it, which tells its content and fails at the calls that a test lists or plans. The disk keeps a record of its
-//! changes, and so tells what a crash at each moment might have left.
+//! The outside of a program of Performance Co-Pilot in memory, for tests: an object for each trait of `pcp_outside`
+//! but `Turn`, proved against it, which tells its content and fails at the calls that a test lists or plans. The disk keeps
+//! a record of its changes, and so tells what a crash at each moment might have left.
 #![tactic(auto)]
 
 mod contents;
