@@ -17,7 +17,8 @@ fn write_slot(out: &mut String, slot: Slot) -> Result<(), NoMemory> {
         kind,
         word,
     } = slot;
-    write!(out, "{item} {instance} {kind:?} in word {word}\n")?;
+    let kind = case_parts::kind_name(kind);
+    write!(out, "{item} {instance} {kind} in word {word}\n")?;
     Ok(())
 }
 

@@ -67,6 +67,20 @@ fn tell_earlier(alloc: Global, mut words: Words<'_>) -> Result<Option<String>, N
     told(alloc, if first < second { "yes\n" } else { "no\n" })
 }
 
+/// The name of a value's type.
+pub fn kind_name(kind: Kind) -> &'static str {
+    match kind {
+        Kind::I32 => "I32",
+        Kind::U32 => "U32",
+        Kind::I64 => "I64",
+        Kind::U64 => "U64",
+        Kind::Float => "Float",
+        Kind::Double => "Double",
+        Kind::Text => "Text",
+        Kind::Elapsed => "Elapsed",
+    }
+}
+
 // `kind CODE` and `semantics CODE`: the name and its code again.
 fn tell_kind(alloc: Global, mut words: Words<'_>) -> Result<Option<String>, NoMemory> {
     let Some(code) = words.number() else {
@@ -74,8 +88,8 @@ fn tell_kind(alloc: Global, mut words: Words<'_>) -> Result<Option<String>, NoMe
     };
     match Kind::of_code(code) {
         Some(kind) => {
-            let code = kind.code();
-            Ok(Some(format!(in alloc; "{kind:?} {code}\n")?))
+            let (name, code) = (kind_name(kind), kind.code());
+            Ok(Some(format!(in alloc; "{name} {code}\n")?))
         }
         None => told(alloc, "none\n"),
     }
@@ -88,7 +102,12 @@ fn tell_semantics(alloc: Global, mut words: Words<'_>) -> Result<Option<String>,
     match Semantics::of_code(code) {
         Some(meant) => {
             let code = meant.code();
-            Ok(Some(format!(in alloc; "{meant:?} {code}\n")?))
+            let name = match meant {
+                Semantics::Counter => "Counter",
+                Semantics::Instant => "Instant",
+                Semantics::Discrete => "Discrete",
+            };
+            Ok(Some(format!(in alloc; "{name} {code}\n")?))
         }
         None => told(alloc, "none\n"),
     }

@@ -2,7 +2,7 @@
 use crate::entries::{entries_of, numbers_of};
 use case_book::Line;
 use pcp_base::NoMemory;
-use region_core::{Entry, State, Stop, replay};
+use region_core::{Entry, Mode, State, Stop, replay};
 use std::alloc::Global;
 
 fn write_words(out: &mut String, words: &[u64]) -> Result<(), NoMemory> {
@@ -15,8 +15,13 @@ fn write_words(out: &mut String, words: &[u64]) -> Result<(), NoMemory> {
 }
 
 fn write_mode(out: &mut String, state: &State, pass: u32) -> Result<(), NoMemory> {
-    let mode = state.mode(pass);
-    write!(out, ", {mode:?}")?;
+    out.push_str(match state.mode(pass) {
+        Some(Mode::Idle) => ", Some(Idle)",
+        Some(Mode::Attached) => ", Some(Attached)",
+        Some(Mode::Bounced) => ", Some(Bounced)",
+        Some(Mode::Changing) => ", Some(Changing)",
+        None => ", None",
+    })?;
     Ok(())
 }
 

@@ -10,7 +10,7 @@ mod names;
 mod profile;
 mod schedule;
 
-pub use base::tell_value;
+pub use base::{kind_name, tell_value};
 pub use journals::tell_journal;
 pub use names::tell_names;
 pub use profile::Filter;

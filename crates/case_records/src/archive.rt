@@ -1,6 +1,6 @@
 //! Parts of an archive's files (LOGARCHIVE(5)): labels, framed records and the entries of the index.
 use archive_frame::{
-    FrameFault, Label, Step, label_bytes, put_frame, put_label, read_label, step_back, step_forward,
+    FrameFault, Label, Step, label_bytes, put_label, read_label, step_back, step_forward,
 };
 use case_book::{Words, text_of};
 use pcp_base::{Duplicate, NoMemory, Stamp};
@@ -233,16 +233,6 @@ fn make_entry(alloc: Global, mut words: Words<'_>) -> Result<Option<Vec<u8>>, No
     Ok(Some(out))
 }
 
-// A payload in its frame, behind two bytes.
-fn make_frame(alloc: Global, payload: &[u8]) -> Result<Option<Vec<u8>>, NoMemory> {
-    if payload.len() > 16_777_208 {
-        return Ok(None);
-    }
-    let mut out = b"> ".to_vec(alloc)?;
-    put_frame(&mut out, payload)?;
-    Ok(Some(out))
-}
-
 fn bytes_of(told: Option<String>) -> Option<Vec<u8>> {
     match told {
         Some(text) => Some(text.into_bytes()),
@@ -250,7 +240,7 @@ fn bytes_of(told: Option<String>) -> Option<Vec<u8>> {
     }
 }
 
-/// Of the input's bytes `label read`, `frame forward OFFSET`, `frame back OFFSET`, `frame put` and `index ..` (above);
+/// Of the input's bytes `label read`, `frame forward OFFSET`, `frame back OFFSET` and `index ..` (above);
 /// of words `label write NUMBER PID SEC USEC HOST ZONE` and `index write SEC USEC VOLUME META OFFSET`.
 pub fn tell_record(
     alloc: Global,
@@ -263,7 +253,6 @@ pub fn tell_record(
     match (part, form) {
         ("label", "read") => Ok(Some(tell_label(alloc, input)?.into_bytes())),
         ("label", "write") => make_label(alloc, words),
-        ("frame", "put") => make_frame(alloc, input),
         ("frame", _) => Ok(bytes_of(tell_frame(alloc, form, words.rest(), input)?)),
         ("index", "write") => make_entry(alloc, words),
         ("index", _) => Ok(bytes_of(tell_index(alloc, all, input)?)),

@@ -5,17 +5,16 @@ mod parts;
 
 use crate::scene::parts::Parts;
 use case_book::{Answer, Kept, Line, Subject};
-use case_images::{Building, tell_image};
+use case_images::tell_image;
 use case_logger::Logging;
 use case_outside::{Outside, prepare_input};
 use pcp_base::NoMemory;
 use std::alloc::Global;
 
-/// What one case has: its outside, a builder of images, a logger, and all other parts.
+/// What one case has: its outside, a logger, and all other parts.
 #[derive(Drop)]
 pub struct Scene {
     outside: Outside,
-    building: Building,
     logging: Logging,
     parts: Parts,
 }
@@ -24,7 +23,6 @@ impl Scene {
     pub fn new(alloc: Global) -> Scene {
         Scene {
             outside: Outside::new(alloc),
-            building: Building::new(),
             logging: Logging::new(alloc),
             parts: Parts::new(alloc),
         }
@@ -68,7 +66,6 @@ impl Subject for Scene {
             }
             "logger" => self.logging.call(alloc, &mut outside.drive, answer, rest),
             "image" => tell_image(alloc, answer, &outside.input, rest),
-            "build" | "take" => self.building.step(alloc, kept, answer, line),
             _ => self.parts.step(alloc, &outside.input, answer, line),
         }
     }

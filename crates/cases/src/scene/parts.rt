@@ -1,7 +1,6 @@
 //! Parts whose calls no command makes. A line calls one; what it tells is the output, and there is no status.
 use archive_meta::MetaState;
 use case_book::{Answer, Line, Words};
-use case_images::{tell_script, tell_text};
 use case_parts::{Filter, Schedule, tell_journal, tell_names, tell_value};
 use case_records::{tell_meta, tell_record, tell_result};
 use pcp_base::NoMemory;
@@ -48,8 +47,6 @@ impl Parts {
             "meta" => tell_meta(alloc, &mut self.meta, words, input),
             "base" => Ok(bytes_of(tell_value(alloc, words, input)?)),
             "journal" => Ok(bytes_of(tell_journal(alloc, line.rest)?)),
-            "text" => tell_text(alloc, words),
-            "script" => tell_script(alloc, line.rest, input),
             "result" => tell_result(alloc, line.rest, input),
             "label" | "frame" | "index" => tell_record(alloc, line.word, words, input),
             _ => Ok(None),
